@@ -24,7 +24,7 @@ use Rattle.client_session.specs.Surroundings.{AreSame}
 use Rattle.client_session.specs.Turns.{MeetsInAnswer, RisesInAnswer}
 use Rattle.client_session.specs.declared.ending.SessionStop.{SessionStop}
 use Rattle.client_session.specs.declared.rows.Row.{Row}
-use Rattle.client_session.specs.declared.surroundings.Sitting.{Sitting}
+use Rattle.client_session.specs.declared.surroundings.Surroundings.{Surroundings}
 use Rattle.client_session.specs.declared.turn.Answered.{Answered}
 use Rattle.client_session.specs.declared.turn.Settled.{Settled}
 use Rattle.client_session.proofs.AnswerLaws.{line_of, shown_stop, shown_whole, stop_known, stop_meets, stop_rises}
@@ -32,7 +32,7 @@ use Rattle.client_session.proofs.SessionLaws.{ready_same}
 use Rattle.client_session.proofs.SurroundingsLaws.{no_fewer_at, no_fewer_twice}
 
 -- the reach wasn't asked
-pub keeps_by : {B K R C X : Type 0} (state : B → DeskState) (of_reach : Ghosts R Beside) (of_client : Ghosts C X) (v : Visit) (s n : Sitting B K R C)
+pub keeps_by : {B K R C X : Type 0} (state : B → DeskState) (of_reach : Ghosts R Beside) (of_client : Ghosts C X) (v : Visit) (s n : Surroundings B K R C)
     → IsReady v (state s.desk.now) (of_reach.beside s.reach.now) → KeepsTickets v.session (state s.desk.now) (state n.desk.now)
     → of_reach.beside n.reach.now ≡ of_reach.beside s.reach.now → of_reach.faults n.reach.now ≡ of_reach.faults s.reach.now
     → of_client.beside n.client.now ≡ of_client.beside s.client.now → of_client.faults s.client.now ≤ of_client.faults n.client.now
@@ -47,12 +47,12 @@ keeps_by state of_reach of_client v s n ready kept still as_many beside faults s
 }
 
 -- nothing was done
-pub keeps_all : {B K R C X : Type 0} (state : B → DeskState) (of_reach : Ghosts R Beside) (of_client : Ghosts C X) (v : Visit) (s : Sitting B K R C)
+pub keeps_all : {B K R C X : Type 0} (state : B → DeskState) (of_reach : Ghosts R Beside) (of_client : Ghosts C X) (v : Visit) (s : Surroundings B K R C)
     → IsReady v (state s.desk.now) (of_reach.beside s.reach.now) → KeepsAround state of_reach of_client v s s
 keeps_all state of_reach of_client v s ready =
     keeps_by state of_reach of_client v s s ready (untouched _ _) refl refl refl (no_fewer_at of_client.faults _ _ refl) (refl, refl, refl, refl, refl)
 
-pub keeps_twice : {B K R C X : Type 0} (state : B → DeskState) (of_reach : Ghosts R Beside) (of_client : Ghosts C X) (v : Visit) (s m n : Sitting B K R C)
+pub keeps_twice : {B K R C X : Type 0} (state : B → DeskState) (of_reach : Ghosts R Beside) (of_client : Ghosts C X) (v : Visit) (s m n : Surroundings B K R C)
     → KeepsAround state of_reach of_client v s m → KeepsAround state of_reach of_client v m n → KeepsAround state of_reach of_client v s n
 keeps_twice state of_reach of_client v s m n first second = record {
   ready = second.ready;

@@ -11,39 +11,35 @@ use Rattle.http_front.specs.declared.head.Head.{Head}
 use Rattle.site_config.specs.declared.config.Status.{Status}
 use Rattle.status_worker.specs.Pages.{IsPage}
 use Rattle.status_worker.specs.declared.pages.Page.{Page}
-use Rattle.exchange.specs.Requests.{AtPlace}
-use Rattle.exchange.specs.declared.ending.ExchangeEnd.{ExchangeEnd}
-use Rattle.client_session.specs.Answers.{IsAnswer, IsAnswerAt, IsForwardedAt, IsStatusAnswer, errand_at}
+use Rattle.client_session.specs.Answers.{IsAnswer, IsAnswerAt, IsStatusAnswer}
 use Rattle.client_session.specs.Concluding.{rows_of}
 use Rattle.client_session.specs.Moments.{ReadsInTurn}
 use Rattle.client_session.specs.Requests.{Visit, kind_at, visit_at, visit_in}
-use Rattle.client_session.specs.Sessions.{IsSession, ReadsHead}
+use Rattle.client_session.specs.Sessions.{ReadsHead}
 use Rattle.client_session.specs.Standings.{Puts, ClientStanding, standing}
 use Rattle.client_session.specs.Turns.{Turns}
 use Rattle.client_session.specs.Writing.{WritesPart}
-use Rattle.client_session.specs.declared.ending.SessionEnd.{SessionEnd}
 use Rattle.client_session.specs.declared.ending.SessionStop.{SessionStop}
 use Rattle.client_session.specs.declared.ending.SessionStop.TheVariants as stop
 use Rattle.client_session.specs.declared.inquiry.Inquiry.{Inquiry}
-use Rattle.client_session.specs.declared.surroundings.Sitting.{Sitting}
 use Rattle.client_session.specs.declared.surroundings.Surroundings.{Surroundings}
 use Rattle.client_session.specs.declared.turn.Settled.{Settled}
 use Rattle.client_session.specs.declared.turn.SessionTurn.{SessionTurn}
 
 -- What is known then: `standing_of B.state K.answers R.Meanings C.Meanings around`.
 abbrev pub standing_of : {B K R C X : Type 0} → (B → DeskState) → (K → Option (List ℕ)) → Ghosts R Beside → Ghosts C X
-    → Sitting B K R C → ClientStanding
+    → Surroundings B K R C → ClientStanding
 standing_of state answers told_of_reach told_of_client s =
     standing state answers told_of_reach told_of_client s.desk.now s.clock.now s.reach.now s.client.now s.inbox.now
 
--- The same of what a session is lent, with bytes that were read and not used: `standing_with B.state .. C.Meanings around []`.
+-- The same with other bytes that were read and not used: `standing_with B.state .. C.Meanings around []`.
 abbrev pub standing_with : {B K R C X : Type 0} → (B → DeskState) → (K → Option (List ℕ)) → Ghosts R Beside → Ghosts C X
     → Surroundings B K R C → List ℕ → ClientStanding
 standing_with state answers told_of_reach told_of_client s inbox =
     standing state answers told_of_reach told_of_client s.desk.now s.clock.now s.reach.now s.client.now inbox
 
 -- They are still the caller's own.
-abbrev pub AreSame : {B K R C : Type 0} → Sitting B K R C → Sitting B K R C → Type 0
+abbrev pub AreSame : {B K R C : Type 0} → Surroundings B K R C → Surroundings B K R C → Type 0
 AreSame s n =
     (n.desk.ghost_name ≡ s.desk.ghost_name) × (n.clock.ghost_name ≡ s.clock.ghost_name) × (n.reach.ghost_name ≡ s.reach.ghost_name)
     × (n.client.ghost_name ≡ s.client.ghost_name) × (n.inbox.ghost_name ≡ s.inbox.ghost_name)
@@ -56,14 +52,9 @@ IsAnswered i s n body body' settled = IsAnswer (visit_in i) i.head.now i.last s 
 abbrev pub IsAnsweredAt : Inquiry → (s n : ClientStanding) → (body body' : BodyIn) → Settled → Type 0
 IsAnsweredAt i s n body body' settled = IsAnswerAt (visit_in i) i.head.now i.last s n body body' settled.answered (rows_of settled.row)
 
--- The session added its rows at the end.
-abbrev pub AddsSession : Visit → (s n : ClientStanding) → (puts : List Served → Type 0) → SessionEnd → Type 0
-AddsSession v s n puts end = (gained : List Served) × puts gained × IsSession v s n gained end
-
--- The request was forwarded to the balancer at this place.
-abbrev pub ForwardsTo : Inquiry → (lb : ℕ) → (s n : ClientStanding) → (body body' : BodyIn) → ExchangeEnd → Type 0
-ForwardsTo i lb s n body body' end = AtPlace i.site.now.cfg.now.lbs lb (λ b.
-    IsForwardedAt (visit_in i) (errand_at (visit_in i) i.head.now i.last lb b) s n body body' end)
+-- These rows were put where rows are put, which was so and is so now: `Gains W.gained rows.old rows.new`.
+abbrev pub Gains : {W : Type 0} → (W → List Served → W → Type 0) → (old new : W) → List Served → Type 0
+Gains gained old new = λ rows. gained old rows new
 
 -- The request was answered by that status worker.
 abbrev pub Shows : Inquiry → Status → (s n : ClientStanding) → Result ℕ SessionStop → Type 0

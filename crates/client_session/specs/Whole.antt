@@ -1,15 +1,14 @@
 -- A session as its caller sees it: what was done, what the client has, and what is kept. Read this first.
-use Rattle.std.specs.Prelude.{◌≡◌, ◌≤◌, ℕ, List, [], Option}
+use Rattle.std.specs.Prelude.{ℕ, List, [], Option}
 use Rattle.jk_io.specs.declared.reaching.Beside.{Beside}
 use Rattle.jk_io.specs.declared.traits.streams.Meanings.{Ghosts}
 use Rattle.jk_model.specs.declared.served.Served.{Served}
 use Rattle.balancer_core.specs.Desks.{DeskState}
-use Rattle.status_worker.specs.Desks.{KeepsTickets}
 use Rattle.client_session.specs.Causes.{IsDecided, IsOwnCaused}
 use Rattle.client_session.specs.Complete.{EndsWhole, ServesWhole}
 use Rattle.client_session.specs.Ends.{MeetsBy, RisesBy}
 use Rattle.client_session.specs.Parts.{HasParts}
-use Rattle.client_session.specs.Ready.{IsReady}
+use Rattle.client_session.specs.Keeping.{KeepsAround}
 use Rattle.httpdate.specs.declared.date.HttpDate.{HttpDate}
 use Rattle.client_session.specs.Requests.{Visit, visit_at}
 use Rattle.client_session.specs.Sessions.{InEachSession, IsServed, Serves}
@@ -17,22 +16,6 @@ use Rattle.client_session.specs.Standings.{ClientStanding}
 use Rattle.client_session.specs.Surroundings.{standing_with}
 use Rattle.client_session.specs.declared.ending.SessionEnd.{SessionEnd}
 use Rattle.client_session.specs.declared.surroundings.Surroundings.{Surroundings}
-
--- They are still the caller's own.
-abbrev pub AreSameLent : {B K R C : Type 0} → Surroundings B K R C → Surroundings B K R C → Type 0
-AreSameLent s n =
-    (n.desk.ghost_name ≡ s.desk.ghost_name) × (n.clock.ghost_name ≡ s.clock.ghost_name) × (n.reach.ghost_name ≡ s.reach.ghost_name)
-    × (n.client.ghost_name ≡ s.client.ghost_name)
-
--- Desk and reach are as ready as before: no talk runs, and the desk holds the tickets that it held. No count of faults fell.
-pub record KeepsLent {B K R C X : Type 0} (state : B → DeskState) (of_reach : Ghosts R Beside) (of_client : Ghosts C X) (v : Visit)
-    (s n : Surroundings B K R C) : Type 0 where
-  pub ready : IsReady v (state n.desk.now) (of_reach.beside n.reach.now)
-  pub kept : KeepsTickets v.session (state s.desk.now) (state n.desk.now)
-  pub beside : of_client.beside n.client.now ≡ of_client.beside s.client.now
-  pub reach_faults : of_reach.faults s.reach.now ≤ of_reach.faults n.reach.now
-  pub client_faults : of_client.faults s.client.now ≤ of_client.faults n.client.now
-  pub same : AreSameLent s n
 
 -- One session, by what the types tell: `IsWholeSession B.state K.answers R.Meanings C.Meanings`. First the requests of the
 -- client's bytes, what each gave and the row that it added, where the session ended and why; then what the client has: the
@@ -44,7 +27,7 @@ pub record IsWholeSession {B K R C X : Type 0} (state : B → DeskState) (answer
   pub parts : HasParts v (standing_with state answers of_reach of_client s []) (standing_with state answers of_reach of_client n []) end
   pub fault : RisesBy end.stop (of_client.faults s.client.now) (of_client.faults n.client.now)
   pub met : MeetsBy end.stop (state s.desk.now) (state n.desk.now)
-  pub kept : KeepsLent state of_reach of_client v s n
+  pub kept : KeepsAround state of_reach of_client v s n
 
 -- What follows of each session that ends so: an own answer has a cause for each status, and a refusal its reason; the client's bytes decide what they
 -- can; and a request that nothing disturbs is answered with exactly its member's reply, whether the session goes on after it

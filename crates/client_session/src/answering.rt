@@ -8,11 +8,11 @@ ghost use Rattle.site_config.specs.declared.config.Named.TheVariants as named_is
 ghost use Rattle.exchange.specs.Requests.{errand_of};
 ghost use Rattle.client_session.specs.Answers.{errand_at};
 ghost use Rattle.client_session.specs.Concluding.{HasNamesWithin, HasRoom, IsKnownStop, IsNotFound};
-ghost use Rattle.client_session.specs.Keeping.{IsShown, KeepsAround, TellsAnswer};
+ghost use Rattle.client_session.specs.Keeping.{IsShown, TellsAnswer};
 ghost use Rattle.client_session.specs.Ready.{IsReady};
 ghost use Rattle.client_session.specs.Requests.{IsNewBody, continue_for, mounted_at, visit_in, visit_of};
 ghost use Rattle.client_session.specs.Standings.{Puts, client_at};
-ghost use Rattle.client_session.specs.Surroundings.{IsAnswered, IsAnsweredAt, ForwardsTo, standing_of};
+ghost use Rattle.client_session.specs.Surroundings.{IsAnswered, IsAnsweredAt, standing_of};
 ghost use Rattle.client_session.specs.Turns.{GoesOn};
 ghost use Rattle.client_session.specs.Writing.{BreaksOff, WritesPart};
 
@@ -22,11 +22,11 @@ use crate::inquiry::{Inquiry, own_kind_of};
 use crate::requests::{awaits_continue, is_head};
 use crate::rows::Row;
 use crate::status::serve_status;
-use crate::surroundings::Sitting;
+use crate::surroundings::Surroundings;
 use crate::turn::{Answered, Settled, stopped};
 use crate::writing::{send, write_own};
 use balancer_core::Desk;
-use exchange::{ExchangeEnd, Means, Request, Sides, exchange_of};
+use exchange::{Means, Request, Sides, exchange_of};
 use http_front::{BodyIn, Head, Inbox};
 use jk_io::{Clock, Link, NoMemory, Reach, Sink};
 use jk_model::MemberConfig;
@@ -97,22 +97,26 @@ fn request_at<'a>(of: &Inquiry<'a, 'a>, lb: u32) -> Request<'a>
     }
 }
 
-/// Sends a request to the balancer at this place.
-fn exchange_at<B: Desk, R: Reach, C: Link, K: Clock>(
+/// Answers a request of a balancer.
+fn forward<B: Desk, R: Reach, C: Link, K: Clock>(
     alloc: Global,
     of: &Inquiry,
     lb: u32,
+    row: Row,
     body: &mut BodyIn,
-    around: &mut Sitting<B, K, R, C>,
-) -> ExchangeEnd
+    around: &mut Surroundings<B, K, R, C>,
+) -> Settled
 where
     B::Mark: Drop,
     requires ready { IsReady (visit_of of.now.site.now) (B.state around.old.desk.now) (R.beside around.old.reach.now) }
+    requires mounted { mounted_at (visit_in of.now) of.now.head.now ≡ Some (named_is.Balancer lb) }
     requires worker { lb < length of.now.site.now.cfg.now.lbs }
     requires fresh { IsNewBody of.now.head.now.plan body.old }
-    ensures forwarded { let at = standing_of B.state K.answers R.Meanings C.Meanings in
-        ForwardsTo of.now lb (at around.old) (at around.new) body.old body.new result }
-    ensures kept { KeepsAround B.state R.Meanings C.Meanings (visit_of of.now.site.now) around.old around.new }
+    requires room { HasRoom of.now.site.now.cfg.now (named_is.Balancer lb) of.now.head.now row }
+    ensures answer { let at = standing_of B.state K.answers R.Meanings C.Meanings in
+        IsAnsweredAt of.now (at around.old) (at around.new) body.old body.new result }
+    ensures going { GoesOn result.answered body.new }
+    ensures told { TellsAnswer B.state R.Meanings C.Meanings (visit_of of.now.site.now) result.answered around.old around.new }
 {
     let request = request_at(of, lb);
     let mut means = Means {
@@ -125,36 +129,8 @@ where
             inbox: around.inbox,
         },
     };
-    exchange_of(alloc, &request, &mut means)
-}
-
-/// Answers a request of a balancer.
-fn forward<B: Desk, R: Reach, C: Link, K: Clock>(
-    alloc: Global,
-    of: &Inquiry,
-    lb: u32,
-    row: Row,
-    body: &mut BodyIn,
-    around: &mut Sitting<B, K, R, C>,
-) -> Settled
-where
-    B::Mark: Drop,
-    requires ready { IsReady (visit_of of.now.site.now) (B.state around.old.desk.now) (R.beside around.old.reach.now) }
-    requires mounted { mounted_at (visit_in of.now) of.now.head.now ≡ Some (named_is.Balancer lb) }
-    requires worker { lb < length of.now.site.now.cfg.now.lbs }
-    requires fresh { IsNewBody of.now.head.now.plan body.old }
-    requires room { HasRoom of.now.site.now.cfg.now (named_is.Balancer lb) of.now.head.now row }
-    ensures answer { let at = standing_of B.state K.answers R.Meanings C.Meanings in
-        IsAnsweredAt of.now (at around.old) (at around.new) body.old body.new result }
-    ensures going { GoesOn result.answered body.new }
-    ensures told { TellsAnswer B.state C.Meanings result.answered around.old around.new }
-    ensures kept { KeepsAround B.state R.Meanings C.Meanings (visit_of of.now.site.now) around.old around.new }
-{
-    let end = exchange_at(alloc, of, lb, body, around);
-    let members = of.site.cfg.lbs.as_slice()[lb as usize]
-        .book
-        .members
-        .as_slice();
+    let end = exchange_of(alloc, &request, &mut means);
+    let members = request.balancer.book.members.as_slice();
     conclude(end, members, is_head(of.head), row)
 }
 
@@ -180,7 +156,7 @@ fn show<B: Desk, R: Reach, C: Link, K: Clock>(
     of: &Inquiry,
     place: u32,
     row: Row,
-    around: &mut Sitting<B, K, R, C>,
+    around: &mut Surroundings<B, K, R, C>,
 ) -> Settled
 where
     B::Mark: Drop,
@@ -191,41 +167,11 @@ where
     requires room { HasRoom of.now.site.now.cfg.now (named_is.Status place) of.now.head.now row }
     ensures answer { (body : AnyBody) → let at = standing_of B.state K.answers R.Meanings C.Meanings in
         IsAnsweredAt of.now (at around.old) (at around.new) body body result }
-    ensures told { TellsAnswer B.state C.Meanings result.answered around.old around.new }
-    ensures kept { KeepsAround B.state R.Meanings C.Meanings (visit_of of.now.site.now) around.old around.new }
+    ensures told { TellsAnswer B.state R.Meanings C.Meanings (visit_of of.now.site.now) result.answered around.old around.new }
 {
     let status = &of.site.cfg.statuses.as_slice()[place as usize];
     let answer = serve_status(alloc, of, status, around);
     shown(answer, status, is_head(of.head), row)
-}
-
-/// Answers a request that is mounted at this worker.
-fn answer_at<B: Desk, R: Reach, C: Link, K: Clock>(
-    alloc: Global,
-    of: &Inquiry,
-    worker: Named,
-    row: Row,
-    body: &mut BodyIn,
-    around: &mut Sitting<B, K, R, C>,
-) -> Settled
-where
-    B::Mark: Drop,
-    B::Shown: Drop,
-    requires ready { IsReady (visit_of of.now.site.now) (B.state around.old.desk.now) (R.beside around.old.reach.now) }
-    requires mounted { mounted_at (visit_in of.now) of.now.head.now ≡ Some worker }
-    requires worker { is_worker of.now.site.now.cfg.now worker ≡ true }
-    requires fresh { IsNewBody of.now.head.now.plan body.old }
-    requires room { HasRoom of.now.site.now.cfg.now worker of.now.head.now row }
-    ensures answer { let at = standing_of B.state K.answers R.Meanings C.Meanings in
-        IsAnsweredAt of.now (at around.old) (at around.new) body.old body.new result }
-    ensures going { GoesOn result.answered body.new }
-    ensures told { TellsAnswer B.state C.Meanings result.answered around.old around.new }
-    ensures kept { KeepsAround B.state R.Meanings C.Meanings (visit_of of.now.site.now) around.old around.new }
-{
-    match worker {
-        Named::Balancer(lb) => forward(alloc, of, lb, row, body, around),
-        Named::Status(place) => show(alloc, of, place, row, around),
-    }
 }
 
 /// A row of this request, with room for the longest name that it may tell.
@@ -279,7 +225,7 @@ pub(crate) fn answer<B: Desk, R: Reach, C: Link, K: Clock>(
     alloc: Global,
     of: &Inquiry,
     body: &mut BodyIn,
-    around: &mut Sitting<B, K, R, C>,
+    around: &mut Surroundings<B, K, R, C>,
 ) -> Settled
 where
     B::Mark: Drop,
@@ -289,14 +235,17 @@ where
     ensures answer { let at = standing_of B.state K.answers R.Meanings C.Meanings in
         IsAnswered of.now (at around.old) (at around.new) body.old body.new result }
     ensures going { GoesOn result.answered body.new }
-    ensures told { TellsAnswer B.state C.Meanings result.answered around.old around.new }
-    ensures kept { KeepsAround B.state R.Meanings C.Meanings (visit_of of.now.site.now) around.old around.new }
+    ensures told { TellsAnswer B.state R.Meanings C.Meanings (visit_of of.now.site.now) result.answered around.old around.new }
 {
     let Some(worker) = of.site.map.mount(of.head.clean.as_slice()) else {
         return not_found(alloc, of, around.client);
     };
-    match begin(alloc, of.site.cfg, worker, of.head, around.client) {
-        Ok(row) => answer_at(alloc, of, worker, row, body, around),
-        Err(stop) => stopped(stop),
+    let row = match begin(alloc, of.site.cfg, worker, of.head, around.client) {
+        Ok(row) => row,
+        Err(stop) => return stopped(stop),
+    };
+    match worker {
+        Named::Balancer(lb) => forward(alloc, of, lb, row, body, around),
+        Named::Status(place) => show(alloc, of, place, row, around),
     }
 }

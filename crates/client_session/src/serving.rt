@@ -1,13 +1,13 @@
-//! `serve_session_in`: all requests of one client.
-ghost use Rattle.std.specs.Prelude.{◌≡◌, ◌≤◌, ◌<◌, ◌+◌, [], true, false, IfOk, IsOk, IsSome};
+//! `serve_session`: all requests of one client.
+ghost use Rattle.std.specs.Prelude.{◌≡◌, ◌≤◌, ◌<◌, ◌+◌, [], true, false};
 ghost use Rattle.http_front.specs.Takes.{body_at};
 ghost use Rattle.client_session.specs.Concluding.{rows_of};
 ghost use Rattle.client_session.specs.Finishing.{Finishes, RefusesHead, StopsWithoutHead, TurnsAfter, stop_after};
-ghost use Rattle.client_session.specs.Keeping.{KeepsAround, TellsEnd, TellsTurn};
+ghost use Rattle.client_session.specs.Keeping.{TellsTurn};
 ghost use Rattle.client_session.specs.Ready.{IsReady};
 ghost use Rattle.client_session.specs.Requests.{refused_kind as refused_kind_of, visit_of};
 ghost use Rattle.client_session.specs.Standings.{client_at};
-ghost use Rattle.client_session.specs.Surroundings.{AddsSession, TurnsFrom, TurnsNow, standing_of};
+ghost use Rattle.client_session.specs.Surroundings.{Gains, TurnsFrom, TurnsNow, standing_of};
 ghost use Rattle.client_session.specs.Turns.{IsBusy};
 ghost use Rattle.client_session.specs.Whole.{HoldsOfEach, IsWholeSession};
 
@@ -18,7 +18,7 @@ use crate::moments::moment_of;
 use crate::requests::{MAX_REQUESTS, is_last};
 use crate::rows::Row;
 use crate::session_site::SessionSite;
-use crate::surroundings::{Sitting, Surroundings};
+use crate::surroundings::Surroundings;
 use crate::turn::{Answered, SessionTurn, Settled};
 use crate::writing::write_own;
 use balancer_core::Desk;
@@ -27,8 +27,8 @@ use http_front::{
 };
 use http_out::OwnKind;
 use httpdate::HttpDate;
-use jk_io::{Awaited, Clock, Link, NoMemory, Reach, Sink};
-use jk_model::{NoRows, RowSink, Served};
+use jk_io::{Awaited, Clock, Link, Reach, Sink};
+use jk_model::{RowSink, Served};
 use std::alloc::Global;
 
 /// Why the session stops where the rest of a body can't be read.
@@ -92,7 +92,7 @@ fn serve_head<B: Desk, R: Reach, C: Link, K: Clock, W: RowSink>(
     site: &SessionSite<'_>,
     head: &Head,
     number: u32,
-    around: &mut Sitting<B, K, R, C>,
+    around: &mut Surroundings<B, K, R, C>,
     rows: &mut W,
 ) -> SessionTurn
 where
@@ -101,11 +101,10 @@ where
     requires ready { IsReady (visit_of site.now) (B.state around.old.desk.now) (R.beside around.old.reach.now) }
     requires number { number < MAX_REQUESTS }
     ensures turn { let at = standing_of B.state K.answers R.Meanings C.Meanings in
-        TurnsFrom (visit_of site.now) number head.now (at around.old) (at around.new) (λ gained. W.gained rows.old gained rows.new) result }
+        TurnsFrom (visit_of site.now) number head.now (at around.old) (at around.new) (Gains W.gained rows.old rows.new) result }
     ensures more { result ≡ SessionTurn.Next → number + 1 < MAX_REQUESTS }
     ensures busy { IsBusy result }
-    ensures told { TellsTurn B.state C.Meanings result around.old around.new }
-    ensures kept { KeepsAround B.state R.Meanings C.Meanings (visit_of site.now) around.old around.new }
+    ensures told { TellsTurn B.state R.Meanings C.Meanings (visit_of site.now) result around.old around.new }
 {
     let date = moment_of(site.dated, around.clock);
     let mut body = BodyIn::new(head.plan, MAX_BODY_BYTES);
@@ -143,7 +142,7 @@ fn refuse<C: Sink, W: RowSink>(
     rows: &mut W,
 ) -> SessionStop
     ensures refused { let see = client_at C.Meanings in
-        RefusesHead date form (see client.old) (see client.new) (λ gained. W.gained rows.old gained rows.new) result }
+        RefusesHead date form (see client.old) (see client.new) (Gains W.gained rows.old rows.new) result }
     ensures beside { C.beside client.new ≡ C.beside client.old }
 {
     let Ok(()) = rows.room() else {
@@ -166,7 +165,7 @@ fn stop_without_head<C: Sink, W: RowSink>(
     rows: &mut W,
 ) -> SessionStop
     ensures stops { let see = client_at C.Meanings in
-        StopsWithoutHead date error (see client.old) (see client.new) (λ gained. W.gained rows.old gained rows.new) result }
+        StopsWithoutHead date error (see client.old) (see client.new) (Gains W.gained rows.old rows.new) result }
     ensures beside { C.beside client.new ≡ C.beside client.old }
 {
     match error {
@@ -182,7 +181,7 @@ fn serve_one<B: Desk, R: Reach, C: Link, K: Clock, W: RowSink>(
     alloc: Global,
     site: &SessionSite<'_>,
     number: u32,
-    around: &mut Sitting<B, K, R, C>,
+    around: &mut Surroundings<B, K, R, C>,
     rows: &mut W,
 ) -> SessionTurn
 where
@@ -191,11 +190,10 @@ where
     requires ready { IsReady (visit_of site.now) (B.state around.old.desk.now) (R.beside around.old.reach.now) }
     requires number { number < MAX_REQUESTS }
     ensures turn { let at = standing_of B.state K.answers R.Meanings C.Meanings in
-        TurnsNow (visit_of site.now) number (at around.old) (at around.new) (λ gained. W.gained rows.old gained rows.new) result }
+        TurnsNow (visit_of site.now) number (at around.old) (at around.new) (Gains W.gained rows.old rows.new) result }
     ensures more { result ≡ SessionTurn.Next → number + 1 < MAX_REQUESTS }
     ensures busy { IsBusy result }
-    ensures told { TellsTurn B.state C.Meanings result around.old around.new }
-    ensures kept { KeepsAround B.state R.Meanings C.Meanings (visit_of site.now) around.old around.new }
+    ensures told { TellsTurn B.state R.Meanings C.Meanings (visit_of site.now) result around.old around.new }
 {
     around.client.await_next(Awaited::Client);
     match read_head(alloc, around.inbox, around.client) {
@@ -217,23 +215,30 @@ fn is_idle<C: Link>(inbox: &Inbox, client: &mut C) -> bool
     inbox.is_empty() && client.waits()
 }
 
-/// Serves requests one after the other until the session ends.
-fn serve_all<B: Desk, R: Reach, C: Link, K: Clock, W: RowSink>(
+/// Serves a client's requests until the session ends, and puts a row for each one that was answered, as it ends. Of what an
+/// earlier session left in the inbox nothing is seen.
+///
+/// No talk of the reach runs before the call or after it.
+pub fn serve_session<B: Desk, R: Reach, C: Link, K: Clock, W: RowSink>(
     alloc: Global,
     site: &SessionSite<'_>,
-    around: &mut Sitting<B, K, R, C>,
+    around: &mut Surroundings<B, K, R, C>,
     rows: &mut W,
 ) -> SessionEnd
 where
     B::Mark: Drop,
     B::Shown: Drop,
     requires ready { IsReady (visit_of site.now) (B.state around.old.desk.now) (R.beside around.old.reach.now) }
-    ensures session { let at = standing_of B.state K.answers R.Meanings C.Meanings in
-        AddsSession (visit_of site.now) (at around.old) (at around.new) (λ gained. W.gained rows.old gained rows.new) result }
-    ensures told { TellsEnd B.state C.Meanings result.stop around.old around.new }
-    ensures kept { KeepsAround B.state R.Meanings C.Meanings (visit_of site.now) around.old around.new }
+
+    // All requests and the end, what the client has, and what is kept; then what follows of each session that ends so.
+    ensures session { IsWholeSession B.state K.answers R.Meanings C.Meanings (visit_of site.now) around.old around.new
+        (Gains W.gained rows.old rows.new) result }
+    ensures each { HoldsOfEach (visit_of site.now) result }
+
+    // A client that is left while it waits is one whose reads may wait.
     ensures idle_only { result.stop ≡ SessionStop.Closed Why.Idle → C.may_wait ≡ true }
 {
+    around.inbox.clear();
     let mut number = 0;
     loop {
         match serve_one(alloc, site, number, around, rows) {
@@ -245,100 +250,4 @@ where
             return SessionStop::Closed(Why::Idle).after(number);
         }
     }
-}
-
-// An empty inbox in this memory, or in its own where there is none.
-fn empty_inbox(alloc: Global, lent: Option<Inbox>) -> Result<Inbox, NoMemory>
-    ensures empty { IfOk result (λ inbox. inbox ≡ []) }
-    ensures lent { IsSome lent → IsOk result }
-{
-    match lent {
-        None => Inbox::new(alloc),
-        Some(mut inbox) => {
-            inbox.clear();
-            Ok(inbox)
-        }
-    }
-}
-
-/// Serves a client's requests until the session ends, and puts a row for each one that was answered, as it ends. Their bytes
-/// are read into the memory that is lent, or that is taken where none is; of what an earlier session left there none is seen.
-///
-/// No talk of the reach runs before the call or after it.
-pub fn serve_session_in<B: Desk, R: Reach, C: Link, K: Clock, W: RowSink>(
-    alloc: Global,
-    site: &SessionSite<'_>,
-    lent: &mut Option<Inbox>,
-    around: &mut Surroundings<B, K, R, C>,
-    rows: &mut W,
-) -> SessionEnd
-where
-    B::Mark: Drop,
-    B::Shown: Drop,
-    requires ready { IsReady (visit_of site.now) (B.state around.old.desk.now) (R.beside around.old.reach.now) }
-
-    // All requests and the end, what the client has, and what is kept; then what follows of each session that ends so.
-    ensures session { IsWholeSession B.state K.answers R.Meanings C.Meanings (visit_of site.now) around.old around.new
-        (λ gained. W.gained rows.old gained rows.new) result }
-    ensures each { HoldsOfEach (visit_of site.now) result }
-
-    // A client that is left while it waits is one whose reads may wait.
-    ensures idle_only { result.stop ≡ SessionStop.Closed Why.Idle → C.may_wait ≡ true }
-
-    // What was lent comes back.
-    ensures back { IsSome lent.old → IsSome lent.new }
-{
-    let Ok(mut inbox) = empty_inbox(alloc, lent.take()) else {
-        return SessionEnd {
-            requests: 0,
-            stop: SessionStop::NoMemory,
-        };
-    };
-    let mut sitting = Sitting {
-        desk: around.desk,
-        clock: around.clock,
-        reach: around.reach,
-        client: around.client,
-        inbox: &mut inbox,
-    };
-    let end = serve_all(alloc, site, &mut sitting, rows);
-    *lent = Some(inbox);
-    end
-}
-
-/// As `serve_session_in`, in memory of its own.
-pub fn serve_session_with<B: Desk, R: Reach, C: Link, K: Clock, W: RowSink>(
-    alloc: Global,
-    site: &SessionSite<'_>,
-    around: &mut Surroundings<B, K, R, C>,
-    rows: &mut W,
-) -> SessionEnd
-where
-    B::Mark: Drop,
-    B::Shown: Drop,
-    requires ready { IsReady (visit_of site.now) (B.state around.old.desk.now) (R.beside around.old.reach.now) }
-    ensures session { IsWholeSession B.state K.answers R.Meanings C.Meanings (visit_of site.now) around.old around.new
-        (λ gained. W.gained rows.old gained rows.new) result }
-    ensures each { HoldsOfEach (visit_of site.now) result }
-    ensures idle_only { result.stop ≡ SessionStop.Closed Why.Idle → C.may_wait ≡ true }
-{
-    serve_session_in(alloc, site, &mut None, around, rows)
-}
-
-/// Serves a client's requests until the session ends, and keeps no rows.
-pub fn serve_session<B: Desk, R: Reach, C: Link, K: Clock>(
-    alloc: Global,
-    site: &SessionSite<'_>,
-    around: &mut Surroundings<B, K, R, C>,
-) -> SessionEnd
-where
-    B::Mark: Drop,
-    B::Shown: Drop,
-    requires ready { IsReady (visit_of site.now) (B.state around.old.desk.now) (R.beside around.old.reach.now) }
-    ensures session { IsWholeSession B.state K.answers R.Meanings C.Meanings (visit_of site.now) around.old around.new
-        (λ gained. Unit {0}) result }
-    ensures each { HoldsOfEach (visit_of site.now) result }
-    ensures idle_only { result.stop ≡ SessionStop.Closed Why.Idle → C.may_wait ≡ true }
-{
-    serve_session_with(alloc, site, around, &mut NoRows)
 }

@@ -10,7 +10,7 @@ ghost use Rattle.client_session.specs.Surroundings.{SendsPage, Shows, standing_o
 
 use crate::ending::SessionStop;
 use crate::inquiry::{Inquiry, kind_of, own_kind_of};
-use crate::surroundings::Sitting;
+use crate::surroundings::Surroundings;
 use crate::writing::{send, write_refusal};
 use balancer_core::Desk;
 use jk_io::{Clock, Link, Reach, Sink};
@@ -23,7 +23,7 @@ pub(crate) fn serve_status<B: Desk, R: Reach, C: Link, K: Clock>(
     alloc: Global,
     of: &Inquiry,
     status: &Status,
-    around: &mut Sitting<B, K, R, C>,
+    around: &mut Surroundings<B, K, R, C>,
 ) -> Result<u64, SessionStop>
 where
     B::Mark: Drop,

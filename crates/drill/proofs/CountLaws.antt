@@ -12,8 +12,12 @@ use Rattle.std.proofs.lemmas.List.Sums.{fold-append}
 use Rattle.jk_model.specs.declared.served.Served.{Served}
 use Rattle.client_session.specs.Requests.{Visit}
 use Rattle.client_session.specs.Sessions.{Serves}
+use Rattle.client_session.specs.Ends.{end_of}
 use Rattle.client_session.specs.Standings.{ClientStanding}
 use Rattle.client_session.specs.declared.ending.SessionEnd.{SessionEnd}
+use Rattle.client_session.specs.declared.ending.SessionStop.TheVariants as stop
+use Rattle.client_session.proofs.WayLaws.{never_began}
+use Rattle.status_worker.specs.Desks.{DeskSide}
 use Rattle.pass_desk.specs.Placed.{AreFrom}
 use Rattle.drill.specs.Bodies.{all_together, together, with_bodies, with_body}
 use Rattle.drill.specs.Counts.{AreMade, CountsDrill, CountsRows, CountsSessions, HasRows, IsMadeBy, IsSessionOf}
@@ -37,6 +41,17 @@ rows_counted v first last end text before after serves asks = (
   },
   serves.added,
 )
+
+-- where memory was wanted before a session nothing was counted
+pub none_counted : (v : Visit) (desk : DeskSide) (text : List ℕ) (before : ℕ) → CountsRows v text before before
+none_counted v desk text before =
+    let at : List ℕ → ClientStanding = λ inbox. record {
+      desk = desk;
+      reach = record { talks = None; faults = 0 };
+      client = record { incoming = Some text; received = None; sent = None; faults = 0 };
+      inbox = inbox;
+    } in
+    rows_counted v at at (end_of stop.NoMemory 0) text before before (never_began v at (λ rows. before ≡ with_bodies before rows) refl) refl
 
 -- ---- the sessions of a thread
 

@@ -2,9 +2,10 @@
 ghost use Rattle.std.specs.Prelude.{◌≡◌, IfOk, IfSome};
 ghost use Rattle.exchange.specs.Requests.{sizes_of};
 ghost use Rattle.status_worker.specs.Desks.{KeepsTickets};
+ghost use Rattle.client_session.specs.Keeping.{KeepsAround};
 ghost use Rattle.client_session.specs.Ready.{IsReady};
 ghost use Rattle.client_session.specs.Requests.{visit_of};
-ghost use Rattle.client_session.specs.Whole.{IsWholeSession, KeepsLent};
+ghost use Rattle.client_session.specs.Whole.{IsWholeSession};
 ghost use Rattle.client_session.specs.declared.ending.SessionEnd.{SessionEnd};
 ghost use Rattle.drill.specs.Bodies.{AreCounted};
 ghost use Rattle.drill.specs.Counts.{CountsRows, CountsSessions, CountsThread, visit_at};
@@ -15,7 +16,8 @@ use crate::plan::Plan;
 use crate::requests::Requests;
 use crate::site::DrillSite;
 use balancer_core::Desk;
-use client_session::{SessionSite, SessionStop, Surroundings, serve_session_with};
+use client_session::{SessionSite, SessionStop, Surroundings, serve_session};
+use http_front::Inbox;
 use jk_io::{Bytes, Clock, Link, MemLink, NoMemory, NumberList, Peer, Reach, StepClock};
 use std::alloc::Global;
 
@@ -40,9 +42,9 @@ where
     requires ready { IsReady (visit_of site.now) (B.state around.old.desk.now) (R.beside around.old.reach.now) }
     ensures session { (end : SessionEnd) × IsWholeSession B.state K.answers R.Meanings C.Meanings (visit_of site.now)
         around.old around.new (AreCounted bodies.old.bytes bodies.new.bytes) end }
-    ensures kept { KeepsLent B.state R.Meanings C.Meanings (visit_of site.now) around.old around.new }
+    ensures kept { KeepsAround B.state R.Meanings C.Meanings (visit_of site.now) around.old around.new }
 {
-    match serve_session_with(alloc, site, around, bodies).stop {
+    match serve_session(alloc, site, around, bodies).stop {
         SessionStop::NoMemory => Err(NoMemory),
         _ => Ok(()),
     }
@@ -66,6 +68,7 @@ where
     ensures ready { IsReady (visit_at post.entry) (B.state desk.new) (R.beside reach.new) }
 {
     let mut clock = StepClock::new(NumberList::new(alloc));
+    let mut inbox = Inbox::new(alloc)?;
     let site = SessionSite {
         cfg: &post.site.cfg,
         map: &post.site.map,
@@ -78,6 +81,7 @@ where
         clock: &mut clock,
         reach,
         client,
+        inbox: &mut inbox,
     };
     serve_counted(alloc, &site, &mut around, bodies)
 }

@@ -18,10 +18,12 @@ use crate::notes::{put_busy, put_number};
 use balancer_core::{Book, Desk};
 use client_session::{SessionSite, Surroundings, serve_session};
 use conn_pool::{Idle, NoTape, PooledReach, Pools};
+use http_front::Inbox;
 use jk_io::{
     Bytes, Dial, Gate, GateLink, IoError, Link, MAX_INPUT_BYTES, MemLink, NoMemory, NumberList,
     Peer, Reach, SizeList, SizeTable, StepClock, Turn,
 };
+use jk_model::NoRows;
 use journal_text::{TextError, write_segment};
 use journal_verdict::{check_journal, put_verdict};
 use pass_desk::{Pass, PassBook, PassList, PassPlace, PlacedDesk, close_passes};
@@ -133,13 +135,17 @@ where
         dated: true,
     };
     let mut clock = StepClock::new(NumberList::new(alloc));
+    let Ok(mut inbox) = Inbox::new(alloc) else {
+        return;
+    };
     let mut around = Surroundings {
         desk,
         clock: &mut clock,
         reach,
         client,
+        inbox: &mut inbox,
     };
-    serve_session(alloc, &site, &mut around);
+    serve_session(alloc, &site, &mut around, &mut NoRows);
 }
 
 /// A pool for the one worker.

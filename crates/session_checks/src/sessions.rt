@@ -11,7 +11,8 @@ use balancer_core::PlainDesk;
 use check_rows::rows::{bytes_of, number};
 use check_rows::telling::{part, put_bytes, put_faults, put_word};
 use check_rows::ways::{Way, link_of, writing};
-use client_session::{SessionEnd, SessionSite, SessionStop, Surroundings, serve_session_with};
+use client_session::{SessionEnd, SessionSite, SessionStop, Surroundings, serve_session};
+use http_front::Inbox;
 use jk_io::{
     Bytes, MemLink, MemLinkList, MemReach, NoMemory, NumberList, PatientLink, Peer, StepClock,
 };
@@ -336,6 +337,7 @@ fn serve_into(
     let peer = local(alloc)?;
     let at = said(case.row.fields[1], "dated=");
     let mut clock = StepClock::new(numbers_of(alloc, at)?);
+    let mut inbox = Inbox::new(alloc)?;
     let site = SessionSite {
         cfg: case.config,
         map: case.map,
@@ -348,8 +350,9 @@ fn serve_into(
         clock: &mut clock,
         reach,
         client,
+        inbox: &mut inbox,
     };
-    Ok(serve_session_with(alloc, &site, &mut around, rows))
+    Ok(serve_session(alloc, &site, &mut around, rows))
 }
 
 fn put_balancers(case: &Case<'_>, desk: &mut PlainDesk, out: &mut String) -> Result<(), NoMemory>

@@ -14,7 +14,8 @@ use crate::session::lines::{lines_of, put_number, words_of};
 use crate::session::one_reply::{OneReply, ReplyName, link_of};
 use crate::session::start::{desk_of, reach_of};
 use balancer_core::PlainDesk;
-use client_session::{SessionEnd, SessionSite, Surroundings, serve_session_with};
+use client_session::{SessionEnd, SessionSite, Surroundings, serve_session};
+use http_front::Inbox;
 use jk_io::{Bytes, MemLink, NoMemory, NumberList, Peer, StepClock};
 use jk_model::ServedList;
 use site_config::Config;
@@ -58,16 +59,17 @@ fn serve<N: ReplyName>(
     desk: &mut PlainDesk,
     reach: &mut OneReply<N>,
     client: &mut MemLink,
-) -> (SessionEnd, ServedList)
+) -> Result<(SessionEnd, ServedList), NoMemory>
     requires stands { stands_in site.now.config.now site.now.map.now ≡ true }
     requires peer { peer.now.addr ≡ codes "127.0.0.1" }
     requires desk { IsFirstDesk site.now.config.now.lbs desk.old }
     requires reach { IsFirstReach site.now.config.now.lbs reach.old }
     requires client { IsFirstClient client.old }
-    ensures { (reach.new.faults ≡ 0) × (client.new.faults ≡ 0) → IsDryRun site.now.config.now site.now.map.now
-        client.old.incoming N.reply reach.new.book.talks client.new.sent result.0 result.1.rows }
+    ensures { IfOk result (λ ran. (reach.new.faults ≡ 0) × (client.new.faults ≡ 0) → IsDryRun site.now.config.now site.now.map.now
+        client.old.incoming N.reply reach.new.book.talks client.new.sent ran.0 ran.1.rows) }
 {
     let mut clock = StepClock::new(NumberList::new(alloc));
+    let mut inbox = Inbox::new(alloc)?;
     let site = SessionSite {
         cfg: site.config,
         map: site.map,
@@ -80,11 +82,12 @@ fn serve<N: ReplyName>(
         clock: &mut clock,
         reach,
         client,
+        inbox: &mut inbox,
     };
     let mut rows = ServedList::new(alloc);
-    let end = serve_session_with(alloc, &site, &mut around, &mut rows);
+    let end = serve_session(alloc, &site, &mut around, &mut rows);
     reach.vouch();
-    (end, rows)
+    Ok((end, rows))
 }
 
 // Whether no call of a link failed. Within a talk none is to fail, and a session makes no call outside of a talk; its
@@ -123,7 +126,7 @@ fn tell<N: ReplyName>(
     let peer = Peer {
         addr: Bytes::from_slice(alloc, b"127.0.0.1")?,
     };
-    let (end, rows) = serve(alloc, site, &peer, desk, reach, client);
+    let (end, rows) = serve(alloc, site, &peer, desk, reach, client)?;
     if !is_calm(reach, client) {
         return Err(NoMemory);
     }

@@ -34,7 +34,5 @@ returns-clause-told g c =
           c.serve_status-answer.ensures.answer is c.serve_status-answer.ensures.met;
       fault = shown_rises (visit_in c.args.of.now) c.args.of.now.head.now c.args.of.now.last _ _ c.index-as_slice-place.result c.serve_status-answer.result _ c.shown.result
           c.serve_status-answer.ensures.answer is;
+      kept = c.serve_status-answer.ensures.kept;
     }
-
-pub returns-clause-kept : goal.returns-clause-kept
-returns-clause-kept g c = c.serve_status-answer.ensures.kept

@@ -45,11 +45,11 @@ pub returns-in_default-clause-more : goal.returns-in_default-clause-more
 returns-in_default-clause-more g c = λ next. none_next _ _ next
 
 pub returns-in_default-clause-told : goal.returns-in_default-clause-told
-returns-in_default-clause-told g c = record { met = none_met _; fault = refl }
-
-pub returns-in_default-clause-kept : goal.returns-in_default-clause-kept
-returns-in_default-clause-kept g c =
-    keeps_by _ _ _ _ _ _ c.requires.ready (untouched _ _) refl refl refl (no_fewer_at g.C.Meanings.faults _ _ refl) (refl, refl, refl, refl, refl)
+returns-in_default-clause-told g c = record {
+  met = none_met _;
+  fault = refl;
+  kept = keeps_by _ _ _ _ _ _ c.requires.ready (untouched _ _) refl refl refl (no_fewer_at g.C.Meanings.faults _ _ refl) (refl, refl, refl, refl, refl);
+}
 
 pub returns-clause-told : goal.returns-clause-told
 returns-clause-told g c = record {
@@ -58,14 +58,11 @@ returns-clause-told g c = record {
   fault = follows_rises c.answer-answered.result.answered c.is_last-last.result (body_at c.answer-answered.new.body c.answer-answered.new.around.inbox.now (client_at g.C.Meanings c.answer-answered.new.around.client.now))
       (body_at c.turn_after.new.body c.turn_after.new.inbox (client_at g.C.Meanings c.turn_after.new.client)) c.turn_after.result _ c.answer-answered.ensures.going
       c.turn_after.ensures.turned c.answer-answered.ensures.told.fault;
+  kept = let k = c.answer-answered.ensures.told.kept in
+      keeps_twice _ _ _ _ _ c.answer-answered.new.around _
+      (record { ready = k.ready; kept = k.kept; beside = k.beside; reach_faults = k.reach_faults; client_faults = k.client_faults; same = k.same })
+      (keeps_by _ _ _ _ _ _ k.ready (untouched _ _) refl refl c.turn_after.ensures.beside c.turn_after.ensures.no_fewer (refl, refl, refl, refl, refl));
 }
-
-pub returns-clause-kept : goal.returns-clause-kept
-returns-clause-kept g c =
-    let k = c.answer-answered.ensures.kept in
-    keeps_twice _ _ _ _ _ c.answer-answered.new.around _
-    (record { ready = k.ready; kept = k.kept; beside = k.beside; reach_faults = k.reach_faults; client_faults = k.client_faults; same = k.same })
-    (keeps_by _ _ _ _ _ _ k.ready (untouched _ _) refl refl c.turn_after.ensures.beside c.turn_after.ensures.no_fewer (refl, refl, refl, refl, refl))
 
 pub answer-answered-requires-clause-ready : goal.answer-answered-requires-clause-ready
 answer-answered-requires-clause-ready g c = c.requires.ready

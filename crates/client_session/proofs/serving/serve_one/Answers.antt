@@ -76,23 +76,19 @@ pub returns-in-Ok-Head-clause-told : goal.returns-in-Ok-Head-clause-told
 returns-in-Ok-Head-clause-told g c = record {
   met = c.serve_head.ensures.told.met;
   fault = rises_since _ _ _ _ (c.in-Ok-Head.ensures.steady tt ∙ c.await_next.ensures.same.1) c.serve_head.ensures.told.fault;
+  kept = keeps_twice _ _ _ _ _ _ _
+      (keeps_by _ _ _ _ _ _ c.requires.ready (untouched _ _) refl refl (c.read_head.ensures.same.1 ∙ c.await_next.ensures.same.0)
+      (omega (arith, c.read_head.ensures.no_fewer, c.await_next.ensures.same.1)) (refl, refl, refl, refl, refl))
+      c.serve_head.ensures.told.kept;
 }
 
--- the head was read, and then answered
-pub returns-in-Ok-Head-clause-kept : goal.returns-in-Ok-Head-clause-kept
-returns-in-Ok-Head-clause-kept g c =
-    keeps_twice _ _ _ _ _ _ _
-    (keeps_by _ _ _ _ _ _ c.requires.ready (untouched _ _) refl refl (c.read_head.ensures.same.1 ∙ c.await_next.ensures.same.0)
-    (omega (arith, c.read_head.ensures.no_fewer, c.await_next.ensures.same.1)) (refl, refl, refl, refl, refl))
-    c.serve_head.ensures.kept
-
 pub returns-in-Ok-End-clause-told : goal.returns-in-Ok-End-clause-told
-returns-in-Ok-End-clause-told g c = record { met = none_met _; fault = c.in-Ok-End.ensures.steady tt ∙ c.await_next.ensures.same.1 }
-
-pub returns-in-Ok-End-clause-kept : goal.returns-in-Ok-End-clause-kept
-returns-in-Ok-End-clause-kept g c =
-    keeps_by _ _ _ _ _ _ c.requires.ready (untouched _ _) refl refl (c.read_head.ensures.same.1 ∙ c.await_next.ensures.same.0)
-    (omega (arith, c.read_head.ensures.no_fewer, c.await_next.ensures.same.1)) (refl, refl, refl, refl, refl)
+returns-in-Ok-End-clause-told g c = record {
+  met = none_met _;
+  fault = c.in-Ok-End.ensures.steady tt ∙ c.await_next.ensures.same.1;
+  kept = keeps_by _ _ _ _ _ _ c.requires.ready (untouched _ _) refl refl (c.read_head.ensures.same.1 ∙ c.await_next.ensures.same.0)
+      (omega (arith, c.read_head.ensures.no_fewer, c.await_next.ensures.same.1)) (refl, refl, refl, refl, refl);
+}
 
 pub returns-in-Err-clause-told : goal.returns-in-Err-clause-told
 returns-in-Err-clause-told g c = record {
@@ -114,14 +110,11 @@ returns-in-Err-clause-told g c = record {
         steady = λ calm. c.in-Err.ensures.steady calm ∙ c.await_next.ensures.same.1;
       })
       c.stop_without_head.ensures.stops;
+  kept = let more = no_fewer_without_head c.moment_of-date.result c.in-Err.error (client_at g.C.Meanings c.read_head.new.client) (client_at g.C.Meanings c.stop_without_head.new.client) _
+      c.stop_without_head.result c.stop_without_head.ensures.stops in
+      keeps_by _ _ _ _ _ _ c.requires.ready (untouched _ _) refl refl (c.stop_without_head.ensures.beside ∙ c.read_head.ensures.same.1 ∙ c.await_next.ensures.same.0)
+      (omega (arith, more, c.read_head.ensures.no_fewer, c.await_next.ensures.same.1)) (refl, refl, refl, refl, refl);
 }
-
-pub returns-in-Err-clause-kept : goal.returns-in-Err-clause-kept
-returns-in-Err-clause-kept g c =
-    let more = no_fewer_without_head c.moment_of-date.result c.in-Err.error (client_at g.C.Meanings c.read_head.new.client) (client_at g.C.Meanings c.stop_without_head.new.client) _
-    c.stop_without_head.result c.stop_without_head.ensures.stops in
-    keeps_by _ _ _ _ _ _ c.requires.ready (untouched _ _) refl refl (c.stop_without_head.ensures.beside ∙ c.read_head.ensures.same.1 ∙ c.await_next.ensures.same.0)
-    (omega (arith, more, c.read_head.ensures.no_fewer, c.await_next.ensures.same.1)) (refl, refl, refl, refl, refl)
 
 pub returns-in-Ok-Head-clause-busy : goal.returns-in-Ok-Head-clause-busy
 returns-in-Ok-Head-clause-busy g c = c.serve_head.ensures.busy

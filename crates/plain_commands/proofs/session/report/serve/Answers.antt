@@ -8,8 +8,8 @@ use Rattle.plain_commands.proofs.SessionLemmas.{first_is, run_from, run_listed}
 use Rattle.site_reports.proofs.StartLaws.{starts_sizes}
 use Rattle.plain_commands.proofs.session.report.serve.Goals as goal
 
-pub serve_session_with-end-requires : goal.serve_session_with-end-requires
-serve_session_with-end-requires g c =
+pub serve_session-end-requires : goal.serve_session-end-requires
+serve_session-end-requires g c =
     let d = c.requires.desk in
     record {
       ready = record {
@@ -23,7 +23,7 @@ serve_session_with-end-requires g c =
 
 pub returns : goal.returns
 returns g c calm =
-    let e = c.serve_session_with-end.ensures in
+    let e = c.serve_session-end.ensures in
     let d = c.requires.desk in
     let k = c.requires.client in
     let over = c.vouch.ensures in
