@@ -30,7 +30,7 @@ use Rattle.gear_parts.specs.Logs.{BreaksLoudly, LogTells}
 use Rattle.gear_parts.specs.declared.part.Part.{Part}
 use Rattle.jk_server.specs.PartTells.{PartTells, visit_at, worker_of}
 use Rattle.jk_server.specs.Served.{EndsAtLast, EndsBy, GoesOn, HaveRested, IsRun, IsServed, IsStray, left_by, Run, ServesClient, ServesNext, ServesOn, ServesPartNext, Settles, SettlesBy}
-use Rattle.jk_server.specs.Turns.{EndsAtRest, GoesOrEnds, IsUnderWay, KeepsTurning, LeavesClient, NextsPart, RestsPart, TurnsPart}
+use Rattle.jk_server.specs.Turns.{EndsAtRest, GoesOrEnds, IsUnderWay, KeepsTurning, LeavesClient, RestsPart, TurnsPart}
 use Rattle.jk_server.specs.Worker.{Begins, forgot_desk, IsFit, Keeps, Rests, worker_side, WorkerSide}
 use Rattle.jk_server.specs.declared.part.Post.{Post}
 use Rattle.jk_server.specs.declared.part.WorkerEnd.{WorkerEnd}
@@ -276,6 +276,12 @@ turns {L = L} visit told of first before mid after s m n count link peer None wa
     goes_next {L = L} visit told of first before mid after s m n count (min (count + 1) 18446744073709551615) link peer way gives serves refl
 turns visit told of first before mid after s m n count link peer (Some end) way gives serves =
     ends_next visit told of first before mid after s m n count link peer end way gives serves
+
+-- A client was served, and the worker goes on or ends. It may serve on with what it has. Its share keeps its parts.
+pub record NextsPart {L D R K S W Y C X : Type 0} (told : PartTells D R K S Y C X) (post : Post) (before after : Part L D R K S W Y) (link : C) (peer : Peer) (end : Option (WorkerEnd L)) : Type 0 where
+  pub served : ServesPartNext told (visit_at post) before after link peer end
+  pub fit : IsFit post.cfg.now post.map.now after.desk.desk (told.reach.beside after.reach)
+  pub parts : after.desk.desk.parts ≡ before.desk.desk.parts
 
 -- So of what the worker does at its rest.
 next_so : {L D R K S W Y C X : Type 0} → (told : PartTells D R K S Y C X) (visit : Peer → Visit) (before after : Part L D R K S W Y) (link : C) (peer : Peer) (end : Option (WorkerEnd L))

@@ -3,15 +3,13 @@ use Rattle.std.specs.Prelude.{ℕ, ◌≡◌, ◌+◌, min, List, map, Option, S
 use Rattle.std.specs.List.{All}
 use Rattle.jk_io.specs.declared.traits.streams.Meanings.{Ghosts}
 use Rattle.jk_io.specs.declared.traits.surroundings.Peer.{Peer}
-use Rattle.client_session.specs.Ready.{IsReady}
 use Rattle.client_session.specs.Requests.{Visit, visit}
-use Rattle.client_session.specs.declared.ending.SessionEnd.{SessionEnd}
 use Rattle.jk_io.specs.Doors.{DoorSide, GaveAndGot}
 use Rattle.site_config.specs.declared.config.Config.{Config}
 use Rattle.uri_map.specs.declared.rule.Rule.{Rule}
 use Rattle.gear_parts.specs.declared.part.Part.{Part}
 use Rattle.jk_server.specs.PartTells.{PartTells, visit_at, worker_of}
-use Rattle.jk_server.specs.Served.{count_of, HaveRested, IsRun, IsServed, Run, ServesPartClient, ServesPartNext}
+use Rattle.jk_server.specs.Served.{count_of, HaveRested, IsRun, IsServed, Run, ServesPartClient}
 use Rattle.jk_server.specs.Worker.{IsFit, Keeps, Rests, WorkerSide}
 use Rattle.jk_server.specs.declared.part.Post.{Post}
 use Rattle.jk_server.specs.declared.part.WorkerEnd.{WorkerEnd}
@@ -32,13 +30,6 @@ abbrev pub GoesOrEnds : {C S Y L X : Type 0} → (Peer → Visit) → Ghosts C X
 GoesOrEnds visit told of first now s n count None = IsUnderWay visit told of first now s n (min (count + 1) 18446744073709551615)
 GoesOrEnds visit told of first now s n count (Some end) = IsServed visit told of first now s n end
 
--- One session of a client, whose link this was before and after. The worker's door isn't asked, and it is ready again.
-pub record RunsSession {L D R K S W Y C X : Type 0} (told : PartTells D R K S Y C X) (post : Post) (before after : Part L D R K S W Y) (link back : C) (peer : Peer) (end : SessionEnd) : Type 0 where
-  pub run : IsRun (visit_at post) told.link told.keeps
-      (record { link = link; peer = peer; back = back; from = worker_of told before; to = worker_of told after; end = end })
-  pub ready : IsReady (visit_at post peer) after.desk.desk (told.reach.beside after.reach)
-  pub same_door : after.door ≡ before.door
-
 -- A client was served and its link was left. The worker may serve on with what it has. Its share keeps its parts.
 pub record LeavesClient {L D R K S W Y C X : Type 0} (told : PartTells D R K S Y C X) (post : Post) (before after : Part L D R K S W Y) (link : C) (peer : Peer) (end : Option (WorkerEnd L)) : Type 0 where
   pub served : ServesPartClient told (visit_at post) before after link peer end
@@ -58,12 +49,6 @@ pub record RestsPart {L D R K S W Y C X : Type 0} (told : PartTells D R K S Y C 
   pub same_door : after.door ≡ before.door
   pub same_desk : after.desk ≡ before.desk
   pub same_log : after.log ≡ before.log
-
--- A client was served, and the worker goes on or ends. It may serve on with what it has. Its share keeps its parts.
-pub record NextsPart {L D R K S W Y C X : Type 0} (told : PartTells D R K S Y C X) (post : Post) (before after : Part L D R K S W Y) (link : C) (peer : Peer) (end : Option (WorkerEnd L)) : Type 0 where
-  pub served : ServesPartNext told (visit_at post) before after link peer end
-  pub fit : IsFit post.cfg.now post.map.now after.desk.desk (told.reach.beside after.reach)
-  pub parts : after.desk.desk.parts ≡ before.desk.desk.parts
 
 -- So after all that were served before, and the worker may serve on with what it has. Its share keeps its parts.
 pub record TurnsPart {L D R K S W Y C X : Type 0} (told : PartTells D R K S Y C X) (post : Post) (before after : Part L D R K S W Y) (count : ℕ) (end : Option (WorkerEnd L)) : Type 0 where

@@ -1,10 +1,10 @@
 //! One client: its session, and what a worker makes of the session's end.
-ghost use Rattle.std.specs.Prelude.{◌≡◌, ◌<◌, [], ◌∷◌, true, false, None, Some, IsSome};
+ghost use Rattle.std.specs.Prelude.{◌≡◌, ◌<◌, [], ◌∷◌, true, false, None, Some, IsOk, IsSome};
 ghost use Rattle.jk_io.specs.Told.{appended};
 ghost use Rattle.client_session.specs.Ends.{MeetsBy, RisesBy};
 ghost use Rattle.client_session.specs.Ready.{IsReady};
 ghost use Rattle.client_session.specs.Requests.{visit_of};
-ghost use Rattle.client_session.specs.Whole.{HoldsOfEach, IsWholeSession};
+ghost use Rattle.client_session.specs.Whole.{HoldsOfEach};
 ghost use Rattle.client_session.specs.declared.ending.Why.TheVariants as why;
 ghost use Rattle.status_worker.specs.Desks.{KeepsTickets};
 ghost use Rattle.locked_balancer.specs.Histories.{HasGone};
@@ -15,12 +15,12 @@ ghost use Rattle.gear_parts.specs.Logs.{log_tells};
 ghost use Rattle.jk_server.specs.Lent.{HasPartsOver, ServesOver, SinceCounts, loaned};
 ghost use Rattle.jk_server.specs.Served.{DeskSettles, IsStray, SettlesBy};
 ghost use Rattle.jk_server.specs.PartTells.{part_tells};
-ghost use Rattle.jk_server.specs.Turns.{LeavesClient, NextsPart, RestsPart, RunsSession};
+ghost use Rattle.jk_server.specs.Turns.{LeavesClient, RestsPart};
 ghost use Rattle.jk_server.specs.Worker.{forgot_desk, IsFit, took};
 
 use crate::part::{Post, WorkerEnd};
 use balancer_core::Desk;
-use client_session::{SessionEnd, SessionSite, SessionStop, Surroundings, serve_session_in};
+use client_session::{SessionEnd, SessionSite, SessionStop, Surroundings, serve_session};
 use gear_parts::{Part, WorkerLog};
 use http_front::Inbox;
 use jk_io::{Clock, Door, IoError, Link, NoMemory, Peer, Reach};
@@ -136,30 +136,17 @@ struct Visit<'a, 'i> {
     inbox: &'i mut Option<Inbox>,
 }
 
-/// One session over what it is lent, which stays the caller's own.
-fn serve_around<'a, 'b, 'c, 'd, B: Desk, R: Reach, C: Link, K: Clock, Y: RowSink>(
-    of: Visit<'_, '_>,
-    around: &mut Surroundings<'a, 'b, 'c, 'd, B, K, R, C>,
-    rows: &mut Y,
-) -> SessionEnd
-where
-    B::Mark: Drop,
-    B::Shown: Drop,
-    requires ready { IsReady (visit_of of.site) (B.state around.old.desk.now) (R.beside around.old.reach.now) }
-    ensures session { IsWholeSession B.state K.answers R.Meanings C.Meanings (visit_of of.entry.site) around.old around.new
-        (λ gained. Y.gained rows.old gained rows.new) result }
-    ensures each { HoldsOfEach (visit_of of.entry.site) result }
-    ensures idle_only { result.stop ≡ SessionStop.Closed why.Idle → C.may_wait ≡ true }
-    ensures same_desk { around.new.desk.ghost_name ≡ around.old.desk.ghost_name }
-    ensures same_clock { around.new.clock.ghost_name ≡ around.old.clock.ghost_name }
-    ensures same_reach { around.new.reach.ghost_name ≡ around.old.reach.ghost_name }
-    ensures same_client { around.new.client.ghost_name ≡ around.old.client.ghost_name }
+/// The inbox that a worker has, or a new one where it has none.
+fn inbox_of(alloc: Global, had: Option<Inbox>) -> Result<Inbox, NoMemory>
+    ensures { IsSome had → IsOk result }
 {
-    let Visit { alloc, site, inbox } = of;
-    serve_session_in(alloc, &site, inbox, around, rows)
+    match had {
+        Some(inbox) => Ok(inbox),
+        None => Inbox::new(alloc),
+    }
 }
 
-/// One session, by each of the things that it is lent.
+/// One session, by each of the things that it is lent; for want of memory for its inbox there is none.
 fn serve_visit<B: Desk, R: Reach, C: Link, K: Clock, Y: RowSink>(
     of: Visit<'_, '_>,
     desk: &mut B,
@@ -183,13 +170,23 @@ where
     ensures ready { IsReady (visit_of of.entry.site) (B.state desk.new) (R.beside reach.new) }
     ensures idle_only { result.stop ≡ SessionStop.Closed why.Idle → C.may_wait ≡ true }
 {
+    let Visit { alloc, site, inbox } = of;
+    let Ok(mut bytes) = inbox_of(alloc, inbox.take()) else {
+        return SessionEnd {
+            requests: 0,
+            stop: SessionStop::NoMemory,
+        };
+    };
     let mut around = Surroundings {
         desk,
         clock,
         reach,
         client,
+        inbox: &mut bytes,
     };
-    serve_around(of, &mut around, rows)
+    let end = serve_session(alloc, &site, &mut around, rows);
+    *inbox = Some(bytes);
+    end
 }
 
 /// As `serve_visit`, by a desk that is lent since the moment M and put back.
@@ -270,19 +267,32 @@ where
     end
 }
 
-/// One session of a client.
-fn serve_link<'x, L: SiteName, D: Door, R: Reach, K: Clock, S: Shelf, W: Wait, Y: WorkerLog>(
+/// Serves a client by one session, leaves its link, and says whether the worker ends, and how.
+pub(crate) fn serve_client<
+    'x,
+    L: SiteName,
+    D: Door,
+    R: Reach,
+    K: Clock,
+    S: Shelf,
+    W: Wait,
+    Y: WorkerLog,
+>(
     alloc: Global,
     post: Post<'x>,
     part: &mut Part<'_, '_, L, D, R, K, S, W, Y>,
-    link: &mut D::L,
+    link: D::L,
     peer: &'x Peer,
     inbox: &mut Option<Inbox>,
-) -> SessionEnd
+) -> Option<WorkerEnd<L>>
     requires fit { IsFit post.cfg.now post.map.now part.old.desk.desk (R.beside part.old.reach) }
-    ensures { RunsSession (part_tells D.Door D.L.Meanings K.Clock R.Meanings S.Shelf (log_tells Y.gained Y.greets Y.broken_by Y.log_faults) D.L.may_wait)
-        post.entry part.old part.new link.old link.new peer.now result }
+    requires logged { Y.broken_by part.old.log ≡ None }
+    requires room { 0 < D.room part.old.door }
+    ensures { LeavesClient (part_tells D.Door D.L.Meanings K.Clock R.Meanings S.Shelf (log_tells Y.gained Y.greets Y.broken_by Y.log_faults) D.L.may_wait)
+        post.entry part.old part.new link peer.now result }
 {
+    let before = forget_last(&mut part.desk);
+    part.log.greet(peer);
     let visit = Visit {
         alloc,
         site: SessionSite {
@@ -294,40 +304,20 @@ fn serve_link<'x, L: SiteName, D: Door, R: Reach, K: Clock, S: Shelf, W: Wait, Y
         },
         inbox,
     };
-    serve_seated(
+    let mut link = link;
+    let end = serve_seated(
         visit,
         &mut part.desk,
         &mut part.clock,
         &mut part.reach,
-        link,
+        &mut link,
         &mut part.log,
-    )
-}
-
-/// Serves a client by one session, leaves its link, and says whether the worker ends, and how.
-fn serve_client<L: SiteName, D: Door, R: Reach, K: Clock, S: Shelf, W: Wait, Y: WorkerLog>(
-    alloc: Global,
-    post: Post<'_>,
-    part: &mut Part<'_, '_, L, D, R, K, S, W, Y>,
-    link: D::L,
-    peer: &Peer,
-    inbox: &mut Option<Inbox>,
-) -> Option<WorkerEnd<L>>
-    requires fit { IsFit post.cfg.now post.map.now part.old.desk.desk (R.beside part.old.reach) }
-    requires logged { Y.broken_by part.old.log ≡ None }
-    requires room { 0 < D.room part.old.door }
-    ensures { LeavesClient (part_tells D.Door D.L.Meanings K.Clock R.Meanings S.Shelf (log_tells Y.gained Y.greets Y.broken_by Y.log_faults) D.L.may_wait)
-        post.entry part.old part.new link peer.now result }
-{
-    let before = forget_last(&mut part.desk);
-    part.log.greet(peer);
-    let mut link = link;
-    let end = serve_link(alloc, post, part, &mut link, peer, inbox);
+    );
     close_client(part, link, before, end.stop)
 }
 
 /// What a worker does between two sessions, while its desk holds no ticket. It ends where its reach wants memory to rest.
-fn go_on<L: SiteName, D: Door, R: Reach, K: Clock, S: Shelf, W, Y: WorkerLog>(
+pub(crate) fn go_on<L: SiteName, D: Door, R: Reach, K: Clock, S: Shelf, W, Y: WorkerLog>(
     alloc: Global,
     part: &mut Part<'_, '_, L, D, R, K, S, W, Y>,
 ) -> Option<WorkerEnd<L>>
@@ -340,26 +330,5 @@ fn go_on<L: SiteName, D: Door, R: Reach, K: Clock, S: Shelf, W, Y: WorkerLog>(
     match part.reach.rest(alloc, now) {
         Ok(()) => None,
         Err(NoMemory) => Some(WorkerEnd::NoMemory),
-    }
-}
-
-/// Serves a client, and rests where the worker goes on; says whether it ends, and how.
-pub(crate) fn serve_next<L: SiteName, D: Door, R: Reach, K: Clock, S: Shelf, W: Wait, Y: WorkerLog>(
-    alloc: Global,
-    post: Post<'_>,
-    part: &mut Part<'_, '_, L, D, R, K, S, W, Y>,
-    link: D::L,
-    peer: &Peer,
-    inbox: &mut Option<Inbox>,
-) -> Option<WorkerEnd<L>>
-    requires fit { IsFit post.cfg.now post.map.now part.old.desk.desk (R.beside part.old.reach) }
-    requires logged { Y.broken_by part.old.log ≡ None }
-    requires room { 0 < D.room part.old.door }
-    ensures { NextsPart (part_tells D.Door D.L.Meanings K.Clock R.Meanings S.Shelf (log_tells Y.gained Y.greets Y.broken_by Y.log_faults) D.L.may_wait)
-        post.entry part.old part.new link peer.now result }
-{
-    match serve_client(alloc, post, part, link, peer, inbox) {
-        Some(end) => Some(end),
-        None => go_on(alloc, part),
     }
 }

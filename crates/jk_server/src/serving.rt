@@ -7,7 +7,7 @@ ghost use Rattle.jk_server.specs.PartTells.{part_tells};
 ghost use Rattle.jk_server.specs.Turns.{TurnsPart};
 ghost use Rattle.jk_server.specs.Worker.{IsFit};
 
-use crate::client::serve_next;
+use crate::client::{go_on, serve_client};
 use crate::part::{Post, WorkerEnd};
 use gear_parts::{Part, WorkerLog};
 use http_front::Inbox;
@@ -48,7 +48,7 @@ pub fn serve_part<L: SiteName, D: Door, R: Reach, K: Clock, S: Shelf, W: Wait, Y
     unreachable!()
 }
 
-/// Serves the next client of the part's door; says whether the worker ends, and how.
+/// Serves the next client of the part's door, and rests where the worker goes on; says whether it ends, and how.
 fn serve_turn<L: SiteName, D: Door, R: Reach, K: Clock, S: Shelf, W: Wait, Y: WorkerLog>(
     alloc: Global,
     post: Post<'_>,
@@ -61,10 +61,14 @@ fn serve_turn<L: SiteName, D: Door, R: Reach, K: Clock, S: Shelf, W: Wait, Y: Wo
     ensures { TurnsPart (part_tells D.Door D.L.Meanings K.Clock R.Meanings S.Shelf (log_tells Y.gained Y.greets Y.broken_by Y.log_faults) D.L.may_wait)
         post.entry part.old part.new sessions result }
 {
-    match next_client(alloc, &mut part.door) {
-        Arrival::Client { link, peer } => serve_next(alloc, post, part, link, &peer, inbox),
-        Arrival::Closed => Some(WorkerEnd::Closed { sessions }),
-        Arrival::Fault => Some(WorkerEnd::DoorFault),
-        Arrival::NoMemory => Some(WorkerEnd::NoMemory),
+    let (link, peer) = match next_client(alloc, &mut part.door) {
+        Arrival::Client { link, peer } => (link, peer),
+        Arrival::Closed => return Some(WorkerEnd::Closed { sessions }),
+        Arrival::Fault => return Some(WorkerEnd::DoorFault),
+        Arrival::NoMemory => return Some(WorkerEnd::NoMemory),
+    };
+    match serve_client(alloc, post, part, link, &peer, inbox) {
+        Some(end) => Some(end),
+        None => go_on(alloc, part),
     }
 }

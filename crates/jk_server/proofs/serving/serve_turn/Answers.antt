@@ -1,13 +1,22 @@
-use Rattle.std.proofs.Common.{refl}
-use Rattle.jk_server.proofs.RunLaws.{closes, fails, lacks, room_left, turns}
+use Rattle.std.proofs.Common.{inl, refl, Some}
+use Rattle.jk_server.proofs.RunLaws.{closes, fails, lacks, rests_next, room_left, turns}
 use Rattle.jk_server.proofs.serving.serve_turn.Goals as goal
 
-pub returns-in-Client : goal.returns-in-Client
-returns-in-Client g c = record {
-  turned = λ first s way. turns _ _ _ _ _ _ _ _ _ _ _ _ _ _ way c.in-Client.ensures.arrives c.serve_next.ensures.served;
-  fit = c.serve_next.ensures.fit;
-  parts = c.serve_next.ensures.parts;
+pub returns-in-Some : goal.returns-in-Some
+returns-in-Some g c = record {
+  turned = λ first s way. turns {L = g.row.L.Denot} _ _ _ _ _ _ _ _ _ _ _ _ _ (Some c.in-Some.end) way c.in-Client.ensures.arrives (inl c.in-Some.ensures.served);
+  fit = c.in-Some.ensures.fit;
+  parts = c.in-Some.ensures.parts;
 }
+
+pub returns : goal.returns
+returns g c =
+    let next = rests_next _ _ _ _ _ _ _ _ c.in-None.ensures c.go_on.ensures in
+    record {
+      turned = λ first s way. turns {L = g.row.L.Denot} _ _ _ _ _ _ _ _ _ _ _ _ _ c.go_on.result way c.in-Client.ensures.arrives next.served;
+      fit = next.fit;
+      parts = next.parts;
+    }
 
 pub returns-in-Closed : goal.returns-in-Closed
 returns-in-Closed g c = record {
@@ -30,11 +39,17 @@ returns-in-NoMemory g c = record {
   parts = refl;
 }
 
-pub serve_next-requires-clause-fit : goal.serve_next-requires-clause-fit
-serve_next-requires-clause-fit g c = c.requires.fit
+pub serve_client-requires-clause-fit : goal.serve_client-requires-clause-fit
+serve_client-requires-clause-fit g c = c.requires.fit
 
-pub serve_next-requires-clause-logged : goal.serve_next-requires-clause-logged
-serve_next-requires-clause-logged g c = c.requires.logged
+pub serve_client-requires-clause-logged : goal.serve_client-requires-clause-logged
+serve_client-requires-clause-logged g c = c.requires.logged
 
-pub serve_next-requires-clause-room : goal.serve_next-requires-clause-room
-serve_next-requires-clause-room g c = room_left _ _ c.in-Client.ensures.room
+pub serve_client-requires-clause-room : goal.serve_client-requires-clause-room
+serve_client-requires-clause-room g c = room_left _ _ c.in-Client.ensures.room
+
+pub go_on-requires-clause-idle : goal.go_on-requires-clause-idle
+go_on-requires-clause-idle g c = c.serve_client.ensures.fit.idle
+
+pub go_on-requires-clause-none_held : goal.go_on-requires-clause-none_held
+go_on-requires-clause-none_held g c = c.serve_client.ensures.fit.none_held
