@@ -1,12 +1,13 @@
 -- Books that are cut one after another.
-use Rattle.std.proofs.Common.{ℕ, ◌≡◌, ◌+◌, List, [], ◌∷◌, ◌++◌, Option, Some, None, Result, Ok, Err, refl, sym, ap, ◌∙◌, subst, append_assoc, add-one, arith, length, length-append}
-use Rattle.std.specs.Prelude.{OnOk}
+use Rattle.std.proofs.Common.{ℕ, ◌≡◌, ◌<◌, ◌+◌, get_or, set, List, [], ◌∷◌, ◌++◌, Option, Some, None, Result, Ok, Err, refl, sym, ap, ◌∙◌, subst, append_assoc, add-one, arith, length, length-append}
+use Rattle.std.specs.Prelude.{OnErr, OnOk}
 use Rattle.std.proofs.lemmas.List.{append-nil}
 use Rattle.jk_io.specs.Told.{appended}
 use Rattle.jk_model.specs.declared.segment.Segment.{Segment}
 use Rattle.balancer_core.specs.Journal.{Journal}
-use Rattle.gear_parts.specs.Cuts.{AddsCuts, AddsFront, AreCuts}
+use Rattle.gear_parts.specs.Cuts.{AddsCuts, AddsFront, AreCuts, ToFirst}
 use Rattle.gear_parts.specs.Steps.{AddsCut}
+use Rattle.gear_parts.specs.declared.world.Gear.{Gear}
 
 -- The segments so far were kept, and with those of Books that come next they are those of all of these.
 pub record AreCutSoFar (books : List Journal) (lb : ℕ) (rest : List Journal) (old new : Option (List (ℕ × Segment))) : Type 0 where
@@ -45,6 +46,16 @@ one_cut shelved books rest later lb old mid new b cut is one = record {
 pub on_ok_then : {T E : Type 0} (r : Result T E) (P Q : Type 0) → OnOk r P → (P → Q) → OnOk r Q
 on_ok_then (Ok x) P Q is then = then is
 on_ok_then (Err e) P Q is then = is
+
+pub on_err_then : {T E : Type 0} (r : Result T E) (P Q : Type 0) → OnErr r P → (P → Q) → OnErr r Q
+on_err_then (Ok x) P Q is then = is
+on_err_then (Err e) P Q is then = then is
+
+-- What was done with the shelf at the first place was done with that of the first gear.
+pub to_first : {D G T K S O : Type 0} (Kept : S → S → Type 0) (gears : List (Gear D G T K S O)) (x : Gear D G T K S O) (shelf : S)
+    → 0 < length gears → Kept (get_or gears 0 x).shelf shelf → ToFirst Kept gears (set gears 0 (record (get_or gears 0 x) { shelf = shelf }))
+to_first Kept [] x shelf some kept = absurd (omega (arith, some))
+to_first Kept (g ∷ gears) x shelf some kept = (kept, refl, refl)
 
 pub all_cut : {S : Type 0} (shelved : S → Option (List (ℕ × Segment))) (books rest : List Journal) (lb : ℕ) (old new : S)
     → AreCutSoFar books lb rest (shelved old) (shelved new) → rest ≡ [] → AddsCuts shelved books old new

@@ -80,11 +80,6 @@ as_long_as g xs ys same = ap length same ∙ length-map ys g
 pub written_back : {X : Type 0} → (n : ℕ) (new rest : List X) → n ≡ length new → take n (new ++ rest) ≡ new
 written_back n new rest all = subst (λ (k : ℕ). take k (new ++ rest) ≡ new) (sym all) (take-append_seam new rest)
 
--- As many parts were made as there are gears.
-pub parts_kept : {P Y Z : Type 0} → (start : P → Z) (of : Y → Z) (ps : List P) (gears : List Y) (many count : ℕ)
-    → map start ps ≡ map of gears → many ≡ length ps → count ≡ length gears → many ≡ count
-parts_kept start of ps gears many count same whole all = whole ∙ as_long start of ps gears same ∙ sym all
-
 -- so of a number that is the same
 pub some_so : (n count : ℕ) → n ≡ count → 0 < count → 0 < n
 some_so n count same some = omega (arith, same, some)

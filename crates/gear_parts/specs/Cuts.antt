@@ -4,6 +4,7 @@ use Rattle.jk_io.specs.Told.{appended}
 use Rattle.jk_model.specs.Legal.{IsLegal}
 use Rattle.jk_model.specs.declared.segment.Segment.{Segment}
 use Rattle.balancer_core.specs.Journal.{IsSegmentOf, Journal}
+use Rattle.gear_parts.specs.declared.world.Gear.{Gear}
 
 -- What each Book kept, from balancer lb on, one segment for each in order, legal from its opening.
 abbrev pub AreCuts : (lb : ℕ) → List Journal → List (ℕ × Segment) → Type 0
@@ -24,7 +25,8 @@ pub record AddsFront {S : Type 0} (shelved : S → Option (List (ℕ × Segment)
   pub fewer : length front < length books
   pub added : AddsCuts shelved front old new
 
--- This is so of the first, and nothing else changed.
-abbrev pub ToFirst : {S : Type 0} → (S → S → Type 0) → (old new : List S) → Type 0
-ToFirst Kept (first ∷ rest) (first' ∷ rest') = Kept first first' × (rest' ≡ rest)
+-- This is so of the first gear's shelf, and nothing else changed.
+abbrev pub ToFirst : {D G T K S O : Type 0} → (S → S → Type 0) → (old new : List (Gear D G T K S O)) → Type 0
+ToFirst Kept (first ∷ rest) (first' ∷ rest') =
+    Kept first.shelf first'.shelf × (first' ≡ record first { shelf = first'.shelf }) × (rest' ≡ rest)
 ToFirst Kept old new = ⊥

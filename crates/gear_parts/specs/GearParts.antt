@@ -1,25 +1,22 @@
 -- What of a gear goes where while its worker runs.
-use Rattle.std.specs.Prelude.{ℕ, ◌≡◌, List, [], ◌∷◌, map, Option, None}
+use Rattle.std.specs.Prelude.{ℕ, ◌≡◌, List, [], Option, None, Some}
 use Rattle.atomic_table.specs.Seated.{TableId}
-use Rattle.jk_io.specs.declared.reaching.Talk.{Talk}
 use Rattle.jk_io.specs.declared.traits.streams.Link.{Ghosts as LinkGhosts}
 use Rattle.jk_io.specs.declared.traits.streams.Meanings.{Ghosts}
 use Rattle.jk_io.specs.declared.traits.surroundings.Dial.{Ghosts as DialGhosts}
 use Rattle.conn_pool.specs.Idle.{counts}
-use Rattle.jk_io.specs.Doors.{DoorSide}
 use Rattle.locked_balancer.specs.Locks.{lock_of}
 use Rattle.locked_balancer.specs.SharedDesks.{SharedState, shared_desk}
+use Rattle.locked_balancer.specs.declared.shared_desk.Leaving.{Leaving}
+use Rattle.locked_balancer.specs.declared.site.SiteName.{Ghosts as SiteGhosts}
 use Rattle.conn_pool.specs.Watched.{WatchedState}
 use Rattle.conn_pool.specs.declared.aged_link.AgedLink.{AgedLink}
 use Rattle.conn_pool.specs.declared.watch.Watch.{Watch}
 use Rattle.request_log.specs.LogStates.{LogState}
 use Rattle.request_log.specs.declared.format.Part.{Part as FormatPart}
 use Rattle.gear_parts.specs.GearLogs.{new_log, sink_of}
-use Rattle.gear_parts.specs.Gears.{GearSide}
 use Rattle.gear_parts.specs.declared.world.Gear.{Gear}
 use Rattle.gear_parts.specs.declared.container.Rest.{Rest}
-use Rattle.gear_parts.specs.declared.left.Left.{Left}
-use Rattle.gear_parts.specs.declared.part.Outside.{Outside}
 use Rattle.gear_parts.specs.declared.part.Part.{Part}
 use Rattle.gear_parts.specs.declared.common.Common.{Common}
 
@@ -65,26 +62,21 @@ start_of lock sizes pools watch format gear = record {
 abbrev pub start_by : {L D G T K S O R C X : Type 0} {of_dial : DialGhosts G C X} {of_link : LinkGhosts C X} {told : Ghosts C X} → Common L G R C X of_dial of_link told → List ℕ → Gear D G T K S O → Start D G T K S O (AgedLink C)
 start_by common sizes = start_of (lock_of common.site.now) sizes (counts common.pools.now) common.watch common.format.now
 
--- A part for each gear, in order, each with what its worker begins with.
-abbrev pub ArePartsOf : {L D G T K S W O R C X : Type 0} {of_dial : DialGhosts G C X} {of_link : LinkGhosts C X} {told : Ghosts C X} → Common L G R C X of_dial of_link told → (sizes : List ℕ) → List (Gear D G T K S O)
-    → List (Part L D (WatchedState G T (AgedLink C)) K S W (Option (LogState O))) → Type 0
-ArePartsOf common sizes gears parts = map start_with parts ≡ map (start_by common sizes) gears
+-- the gear of a part: its door, the dial and the tape of its reach, its clock, the shelf of its desk, and what its log is written to
+abbrev pub gear_in : {L D G T K S W O C : Type 0} → Part L D (WatchedState G T C) K S W (Option (LogState O)) → Gear D G T K S O
+gear_in part = record {
+  door = part.door;
+  dial = part.reach.pooled.dial;
+  tape = part.reach.pooled.tape;
+  clock = part.clock;
+  shelf = part.desk.shelf;
+  log = sink_of part.log;
+}
 
--- what a worker leaves beside its desk: its door, the dial and the tape of its reach, its clock, and what its log was written to
-abbrev pub left_from : {D G T K O C : Type 0} → Outside D (WatchedState G T C) K (Option (LogState O)) → Left D G T K O
-left_from o = record { door = o.door; dial = o.reach.pooled.dial; tape = o.reach.pooled.tape; clock = o.clock; log = sink_of o.log }
-
--- a gear but for its shelf
-abbrev pub but_shelf : {D G T K S O : Type 0} → Gear D G T K S O → Left D G T K O
-but_shelf gear = record { door = gear.door; dial = gear.dial; tape = gear.tape; clock = gear.clock; log = gear.log }
-
--- a gear of what its worker left and a shelf, by what its types tell
-abbrev pub gear_with : {D G T K S O C : Type 0} → (D → DoorSide C) → (T → Option (List Talk)) → (K → Option (List ℕ)) → Left D G T K O → S → GearSide C S O
-gear_with at talks answers left shelf =
-    record { door = at left.door; talks = talks left.tape; clock = answers left.clock; shelf = shelf; log = left.log }
-
--- gears of what workers left and their shelves, in order
-abbrev pub gears_with : {C S O X : Type 0} → (X → S → GearSide C S O) → List X → List S → List (GearSide C S O)
-gears_with with [] shelves = []
-gears_with with (x ∷ xs) [] = []
-gears_with with (x ∷ xs) (shelf ∷ shelves) = with x shelf ∷ gears_with with xs shelves
+-- What a desk left beside its shelf: its receipts, how many it forgot, its share, whose amount is the count of entries, and its seat.
+pub record DeskLeaves {L S V : Type 0} {N : SiteGhosts L} (desk : SharedState S) (left : Leaving L V N) : Type 0 where
+  pub receipts_left : left.receipts ≡ desk.desk.receipts
+  pub forgot : left.forgotten ≡ desk.forgotten
+  pub counted : left.share.amount ≡ desk.desk.added
+  pub parts_left : desk.desk.parts ≡ Some left.share.parts
+  pub seat_left : left.seat ≡ desk.seat

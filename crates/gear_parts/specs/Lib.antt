@@ -5,7 +5,6 @@ pub mod GearLogs
 pub mod GearParts
 pub mod Gears
 pub mod Logs
-pub mod Memories
 pub mod Putting
 pub mod Starts
 pub mod Steps

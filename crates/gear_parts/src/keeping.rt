@@ -1,27 +1,31 @@
-//! The last segments of Books, kept on the first of the shelves.
+//! The last segments of Books, kept on the first gear's shelf.
 ghost use Rattle.std.specs.Prelude.{◌≡◌, ◌<◌, ◌≤◌, length, IsErrOf, OnErr, OnOk};
 ghost use Rattle.jk_io.specs.Told.{HasCause, Rose};
 ghost use Rattle.jk_model.specs.declared.config.TheConstants.{MAX_BALANCERS};
 ghost use Rattle.gear_parts.specs.Cuts.{AddsCuts, AddsFront, ToFirst};
 ghost use Rattle.gear_parts.specs.Steps.{AddsCut};
 
+use crate::world::Gear;
 use balancer_core::{Book, BookList};
 use jk_io::IoError;
 use locked_balancer::Shelf;
 
-/// Keeps the last segments on the first of the shelves.
-pub fn keep_on_first<S: Shelf>(books: BookList, shelves: &mut [S]) -> Result<(), IoError>
-    requires some { 0 < length shelves.old }
+/// Keeps the last segments on the first gear's shelf.
+pub fn keep_on_first<D, G, T, K, S: Shelf, O>(
+    books: BookList,
+    gears: &mut [Gear<D, G, T, K, S, O>],
+) -> Result<(), IoError>
+    requires some { 0 < length gears.old }
     requires few { length books ≤ MAX_BALANCERS }
-    ensures kept { OnOk result (ToFirst (AddsCuts S.shelved books) shelves.old shelves.new) }
-    ensures failed { IsErrOf result IoError.Failed → ToFirst (λ old new. Rose (S.faults old) (S.faults new)) shelves.old shelves.new }
+    ensures kept { OnOk result (ToFirst (AddsCuts S.shelved books) gears.old gears.new) }
+    ensures failed { IsErrOf result IoError.Failed → ToFirst (λ old new. Rose (S.faults old) (S.faults new)) gears.old gears.new }
 
     // After an error the segments of the first Books were added, and the faults of the shelf rose where it failed.
-    ensures front { OnErr result (ToFirst (AddsFront S.shelved books) shelves.old shelves.new) }
-    ensures cause { ToFirst (λ old new. HasCause (S.faults old) (S.faults new) result) shelves.old shelves.new }
-    ensures len { length shelves.new ≡ length shelves.old }
+    ensures front { OnErr result (ToFirst (AddsFront S.shelved books) gears.old gears.new) }
+    ensures cause { ToFirst (λ old new. HasCause (S.faults old) (S.faults new) result) gears.old gears.new }
+    ensures len { length gears.new ≡ length gears.old }
 {
-    keep_rest(books, &mut shelves[0])
+    keep_rest(books, &mut gears[0].shelf)
 }
 
 /// Cuts each Book once more, in order, and keeps its segment.

@@ -1,9 +1,9 @@
-//! Gears: what each worker uses of the outside, taken of a world, made into parts, put together again and given back.
+//! Gears: what each worker uses of the outside, taken of a world, made into parts and back, and given back.
 //!
 //! A gear is a door, a dial, a tape, a clock, a shelf and maybe a log. A connector's worker works with a part, which has a desk
 //! in the place of the shelf, and puts the rows of its requests into the log; a container's worker uses the door alone.
 //! Contract: the trait `World`; `take_gears`, clauses `taken`, `made`, `suited` and `refused`, and `give_back`, clause `came_back`;
-//! `first_moment`, clauses `given` and `started`; `parts_for`, clause `starts`; `take_apart` and `gears_again`;
+//! `first_moment`, clauses `given` and `started`; `part_of`, and `gear_of`, clauses `gear` and `desk`;
 //! `log_gears`, clauses `given` and `refused`;
 //! `keep_on_first`, clauses `kept` and `front`; `contain_gears`, clause `ran`. Read first: src/world.rt, specs/Gears.antt,
 //! specs/Worlds.antt; then specs/Starts.antt, specs/GearParts.antt, specs/Cuts.antt and specs/Containers.antt.
@@ -15,9 +15,7 @@ mod container;
 mod gear_log;
 mod gears;
 mod keeping;
-mod left;
 mod logs;
-mod memory;
 mod order;
 mod part;
 mod parts;
@@ -31,11 +29,10 @@ pub use container::{ContainerRun, contain_gears};
 pub use gear_log::GearLog;
 pub use gears::{GearOf, give_back, take_gears};
 pub use keeping::keep_on_first;
-pub use left::{Left, gears_again, take_apart};
 pub use logs::log_gears;
-pub use memory::{After, Memory, parts_for};
 pub use order::GearOrder;
-pub use part::{Outside, OutsideList, Part};
+pub use part::Part;
+pub use parts::{gear_of, part_of};
 pub use starting::first_moment;
 pub use told_world::ToldWorld;
 pub use worker_log::WorkerLog;

@@ -1,6 +1,5 @@
-//! What a worker works with, and what it worked with.
+//! What a worker works with.
 
-use jk_io::ListOf;
 use locked_balancer::{SharedDesk, Shelf, SiteName};
 
 /// What a worker works with.
@@ -13,15 +12,3 @@ pub struct Part<'s, 'r, L: SiteName, D, R, K, S: Shelf, W, Y> {
     /// Where the rows of its requests are put.
     pub log: Y,
 }
-
-/// What a worker worked with, but for its desk.
-#[derive(Drop)]
-pub struct Outside<D, R, K, Y> {
-    pub door: D,
-    pub reach: R,
-    pub clock: K,
-    pub log: Y,
-}
-
-/// What the workers worked with, in the order of their parts.
-pub type OutsideList<D, R, K, Y> = ListOf<Outside<D, R, K, Y>>;

@@ -1,8 +1,6 @@
-//! The parts of gears, with which the workers of a connector work.
-ghost use Rattle.std.specs.Prelude.{◌≡◌, ◌+◌, ◌<◌, ◌≤◌, [], length, map, vec_capacity, vec_len};
-ghost use Rattle.std.specs.List.{All};
-ghost use Rattle.gear_parts.specs.GearParts.{ArePartsOf, start_by, start_with};
-ghost use Rattle.gear_parts.specs.Putting.{PutsOne};
+//! The part of a gear, with which a worker of a connector works, and the gear again.
+ghost use Rattle.std.specs.Prelude.{◌≡◌, [], false, is_some};
+ghost use Rattle.gear_parts.specs.GearParts.{DeskLeaves, gear_in, start_by, start_with};
 
 use crate::common::Common;
 use crate::gear_log::GearLog;
@@ -10,86 +8,13 @@ use crate::part::Part;
 use crate::world::Gear;
 use conn_pool::{Tape, WatchedReach};
 use jk_io::Dial;
-use locked_balancer::{SharedDesk, Shelf, SiteName};
+use locked_balancer::{Leaving, SharedDesk, Shelf, SiteName};
 use request_log::Timed;
 use std::alloc::Global;
 use std::sync::ledger::Share;
-use std::vec::IntoIter;
 
-/// A part for each gear, with one part of the share.
-pub(crate) fn fill_parts<
-    's,
-    'r,
-    L: SiteName,
-    D: Drop,
-    G: Dial + Drop,
-    T: Tape + Drop,
-    K: Drop,
-    S: Shelf + Drop,
-    O: Timed + Drop,
-    R,
->(
-    alloc: Global,
-    common: &Common<'s, 'r, L, G, R>,
-    share: Share<L>,
-    gears: Vec<Gear<D, G, T, K, S, O>>,
-    parts: &mut Vec<Part<'s, 'r, L, D, WatchedReach<'s, 'r, G, T, R>, K, S, R, GearLog<'s, O>>>,
-)
-    requires none { parts.old.items ≡ [] }
-    requires room { vec_len gears ≤ vec_capacity parts.old }
-    requires parts { share.parts ≡ vec_len gears }
-    requires amount { share.amount ≡ 0 }
-    requires idle { All (λ g. T.is_idle g.tape) gears.items }
-    ensures starts { ArePartsOf common.now L.sizes gears.items parts.new.items }
-{
-    let mut share = share;
-    let mut gears = gears.into_iter();
-    put_parts(alloc, common, &mut share, &mut gears, parts);
-}
-
-/// As `fill_parts`, over gears and a share that the caller lends.
-fn put_parts<'s, 'r, L: SiteName, D, G: Dial, T: Tape, K, S: Shelf, O: Timed, R>(
-    alloc: Global,
-    common: &Common<'s, 'r, L, G, R>,
-    share: &mut Share<L>,
-    gears: &mut IntoIter<Gear<D, G, T, K, S, O>>,
-    parts: &mut Vec<Part<'s, 'r, L, D, WatchedReach<'s, 'r, G, T, R>, K, S, R, GearLog<'s, O>>>,
-)
-    requires none { parts.old.items ≡ [] }
-    requires room { length gears.old.rest.items ≤ vec_capacity parts.old }
-    requires parts { share.old.parts ≡ length gears.old.rest.items }
-    requires amount { share.old.amount ≡ 0 }
-    requires idle { All (λ g. T.is_idle g.tape) gears.old.rest.items }
-    ensures starts { ArePartsOf common.now L.sizes gears.old.rest.items parts.new.items }
-{
-    'gears: while let Some(gear) = gears.next() {
-        put_part(alloc, common, share, gear, parts);
-    }
-}
-
-/// Adds the part of a gear at the end.
-fn put_part<'s, 'r, L: SiteName, D, G: Dial, T: Tape, K, S: Shelf, O: Timed, R>(
-    alloc: Global,
-    common: &Common<'s, 'r, L, G, R>,
-    share: &mut Share<L>,
-    gear: Gear<D, G, T, K, S, O>,
-    parts: &mut Vec<Part<'s, 'r, L, D, WatchedReach<'s, 'r, G, T, R>, K, S, R, GearLog<'s, O>>>,
-)
-    requires some { 0 < share.old.parts }
-    requires amount { share.old.amount ≡ 0 }
-    requires idle { T.is_idle gear.tape }
-    requires room { vec_len parts.old < vec_capacity parts.old }
-    ensures part { PutsOne (λ p. start_with p ≡ start_by common.now L.sizes gear) parts.old.items parts.new.items }
-    ensures share { (share.new.parts + 1 ≡ share.old.parts) × (share.new.amount ≡ 0) }
-    ensures len { vec_len parts.new ≡ vec_len parts.old + 1 }
-    ensures capacity { vec_capacity parts.new ≡ vec_capacity parts.old }
-{
-    let mine = share.split_off(1, 0);
-    parts.push_reserved(part_of(alloc, common, mine, gear));
-}
-
-/// The part of a gear.
-fn part_of<'s, 'r, L: SiteName, D, G: Dial, T: Tape, K, S: Shelf, O: Timed, R>(
+/// The part of a gear, with this part of the share. It takes no memory.
+pub fn part_of<'s, 'r, L: SiteName, D, G: Dial, T: Tape, K, S: Shelf, O: Timed, R>(
     alloc: Global,
     common: &Common<'s, 'r, L, G, R>,
     share: Share<L>,
@@ -115,4 +40,57 @@ fn part_of<'s, 'r, L: SiteName, D, G: Dial, T: Tape, K, S: Shelf, O: Timed, R>(
         desk: SharedDesk::new(alloc, common.site, share, shelf),
         log: GearLog::new(alloc, common.format, log),
     }
+}
+
+/// The gear of a part, with the shelf of its desk, and what the desk leaves beside that. It takes no memory.
+pub fn gear_of<'s, 'r, 'f, L: SiteName, D, G: Dial, T: Tape, K, S: Shelf, O: Timed, R>(
+    part: Part<'s, 'r, L, D, WatchedReach<'s, 'r, G, T, R>, K, S, R, GearLog<'f, O>>,
+) -> (Gear<D, G, T, K, S, O>, Leaving<L, ()>)
+    requires none_held { part.desk.desk.held ≡ [] }
+    requires idle { is_some part.reach.pooled.lent ≡ false }
+    ensures gear { result.0 ≡ gear_in part.entry }
+    ensures desk { DeskLeaves part.entry.desk result.1 }
+{
+    let Part {
+        door,
+        reach,
+        clock,
+        desk,
+        log,
+    } = part;
+    let (dial, tape) = reach.into_parts();
+    let (shelf, leaving) = shelf_off(desk.leave());
+    let gear = Gear {
+        door,
+        dial,
+        tape,
+        clock,
+        shelf,
+        log: log.into_log(),
+    };
+    (gear, leaving)
+}
+
+/// Takes the shelf off what a desk leaves.
+fn shelf_off<L: SiteName, S>(leaving: Leaving<L, S>) -> (S, Leaving<L, ()>)
+    ensures shelf { result.0 ≡ leaving.shelf }
+    ensures receipts { (result.1.receipts ≡ leaving.receipts) × (result.1.forgotten ≡ leaving.forgotten) }
+    ensures share { (result.1.share.amount ≡ leaving.share.amount) × (result.1.share.parts ≡ leaving.share.parts) }
+    ensures seat { result.1.seat ≡ leaving.seat }
+{
+    let Leaving {
+        share,
+        receipts,
+        forgotten,
+        shelf,
+        seat,
+    } = leaving;
+    let rest = Leaving {
+        share,
+        receipts,
+        forgotten,
+        shelf: (),
+        seat,
+    };
+    (shelf, rest)
 }

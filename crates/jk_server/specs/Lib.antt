@@ -17,7 +17,6 @@ pub mod Watches
 pub mod Worker
 pub use Rattle.gear_parts.specs.Containers
 pub use Rattle.gear_parts.specs.GearParts
-pub use Rattle.gear_parts.specs.Memories
 pub use Rattle.gear_parts.specs.Starts
 pub use Rattle.gear_parts.specs.Worlds
 pub use Rattle.site_reports.specs.Sites

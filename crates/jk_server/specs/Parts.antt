@@ -1,36 +1,24 @@
--- What each worker of a run did, and what it left.
-use Rattle.std.specs.Prelude.{ℕ, ◌≡◌, ◌+◌, ◌<◌, List, [], ◌∷◌, length, slice_index_or, Some}
+-- What each worker of a run did, and what was left of its slot.
+use Rattle.std.specs.Prelude.{ℕ, ◌≡◌, ◌+◌, ◌<◌, false, is_some, List, [], ◌∷◌, length, slice_index_or, Option}
 use Rattle.jk_io.specs.declared.reaching.Beside.{Beside}
 use Rattle.jk_io.specs.declared.traits.streams.Meanings.{Ghosts}
 use Rattle.jk_io.specs.declared.traits.surroundings.Peer.{Peer}
-use Rattle.balancer_core.specs.declared.receipt.Receipt.{Receipt}
 use Rattle.client_session.specs.Requests.{Visit, visit}
 use Rattle.jk_io.specs.Doors.{DoorSide}
-use Rattle.locked_balancer.specs.Histories.{SeatNote}
-use Rattle.locked_balancer.specs.SharedDesks.{SharedState}
 use Rattle.locked_balancer.specs.declared.shared_desk.Leaving.{Leaving}
 use Rattle.locked_balancer.specs.declared.site.SiteName.{Ghosts as SiteGhosts}
 use Rattle.site_config.specs.declared.config.Config.{Config}
 use Rattle.uri_map.specs.declared.rule.Rule.{Rule}
 use Rattle.jk_server.specs.Served.{IsServed}
 use Rattle.jk_server.specs.PartTells.{PartTells, worker_of}
-use Rattle.jk_server.specs.Worker.{IsFit, Keeps, worker_side, WorkerSide}
-use Rattle.gear_parts.specs.declared.part.Outside.{Outside}
+use Rattle.jk_server.specs.Worker.{IsFit, Keeps, WorkerSide}
+use Rattle.conn_pool.specs.Watched.{WatchedState}
+use Rattle.request_log.specs.LogStates.{LogState}
+use Rattle.gear_parts.specs.GearParts.{DeskLeaves, gear_in, Start, start_with}
 use Rattle.gear_parts.specs.declared.part.Part.{Part}
-use Rattle.jk_server.specs.declared.part.ServeEnd.{ServeEnd}
+use Rattle.gear_parts.specs.declared.world.Gear.{Gear}
 use Rattle.jk_server.specs.declared.part.WorkerEnd.{WorkerEnd}
-
--- What a desk left: its receipts, how many it forgot, its shelf, its share, whose amount is the count of entries, and its seat.
-pub record Leaves {S : Type 0} (desk : SharedState S) (receipts : List Receipt) (forgotten : ℕ) (shelf : S) (amount parts : ℕ) (seat : SeatNote) : Type 0 where
-  pub receipts_left : receipts ≡ desk.desk.receipts
-  pub forgot : forgotten ≡ desk.forgotten
-  pub shelf_left : shelf ≡ desk.shelf
-  pub counted : amount ≡ desk.desk.added
-  pub parts_left : desk.desk.parts ≡ Some parts
-  pub seat_left : seat ≡ desk.seat
-
-abbrev pub DeskLeaves : {L S : Type 0} {N : SiteGhosts L} → SharedState S → Leaving L S N → Type 0
-DeskLeaves desk left = Leaves desk left.receipts left.forgotten left.shelf left.share.amount left.share.parts left.seat
+use Rattle.jk_server.specs.declared.workers.Slot.{Slot}
 
 -- A worker served its part, and may serve on with what it has. Its share keeps its parts.
 pub record IsWorked {C S Y L X : Type 0} (visit : Peer → Visit) (told : Ghosts C X) (of : Keeps S Y) (cfg : Config) (rules : List Rule) (before after : DoorSide C) (s n : WorkerSide S Y) (beside : Beside) (end : WorkerEnd L) : Type 0 where
@@ -60,25 +48,34 @@ AllFour Is [] [] [] [] = Unit {0}
 AllFour Is (p ∷ ps) (o ∷ os) (l ∷ ls) (e ∷ es) = Is p o l e × AllFour Is ps os ls es
 AllFour Is _ _ _ _ = ⊥
 
--- What was left of a part: its door, its reach, its clock and its log, and what its desk left.
-pub record LeavesPart {L D R K S W Y : Type 0} {N : SiteGhosts L} (part : Part L D R K S W Y) (out : Outside D R K Y) (left : Leaving L S N) : Type 0 where
-  pub same_door : out.door ≡ part.door
-  pub same_reach : out.reach ≡ part.reach
-  pub same_clock : out.clock ≡ part.clock
-  pub same_log : out.log ≡ part.log
-  pub desk : DeskLeaves part.desk left
+-- `Did` holds of each item of a list and of what it became, with its number, the first of which is n.
+abbrev pub AreDone : {Q : Type 0} → (ℕ → Q → Q → Type 0) → ℕ → (before after : List Q) → Type 0
+AreDone Did n [] [] = Unit {0}
+AreDone Did n (a ∷ before) (b ∷ after) = Did n a b × AreDone Did (n + 1) before after
+AreDone Did n _ _ = ⊥
 
--- A worker served its part, and `Left` holds of the desk that it had then.
-pub record IsServedPart {C S Y L X : Type 0} (visit : Peer → Visit) (told : Ghosts C X) (of : Keeps S Y) (cfg : Config) (rules : List Rule) (before after : DoorSide C) (s : WorkerSide S Y) (with : SharedState S → WorkerSide S Y) (beside : Beside) (Left : SharedState S → Type 0) (end : WorkerEnd L) : Type 0 where
-  pub desk : SharedState S
-  pub worked : IsWorked visit told of cfg rules before after s (with desk) beside end
-  pub left : Left desk
+-- ---- slots
 
--- Each part was served and left, by the worker whose number is the part's place.
-abbrev pub AreServedParts : {L D R K S W Y C X : Type 0} {N : SiteGhosts L} → PartTells D R K S Y C X → Config → List Rule → List (Part L D R K S W Y) → ServeEnd L D R K S Y N → Type 0
-AreServedParts {L} {D} {R} {K} {S} {W} {Y} {N = N} told cfg rules parts ran =
-    AreEach (λ (number : ℕ) (part : Part L D R K S W Y) (out : Outside D R K Y) (left : Leaving L S N) (end : WorkerEnd L).
-    IsServedPart (visit cfg rules number) told.link told.keeps cfg rules (told.door part.door) (told.door out.door) (worker_of told part)
-    (λ (desk : SharedState S). worker_side told.clock told.reach desk out.clock out.reach out.log) (told.reach.beside out.reach)
-    (λ (desk : SharedState S). DeskLeaves desk left) end)
-    0 parts ran.outside ran.leaving ran.workers
+-- what the worker of a slot begins with
+abbrev pub slot_start : {L D G T K S W O C : Type 0} → Slot (Part L D (WatchedState G T C) K S W (Option (LogState O))) L → Start D G T K S O C
+slot_start slot = start_with slot.part
+
+-- The worker of a slot, of this number, served its part, and how it ended stands in the slot.
+abbrev pub WorksSlot : {L D R K S W Y C X : Type 0} → PartTells D R K S Y C X → Config → List Rule → (number : ℕ) → (before after : Slot (Part L D R K S W Y) L) → Type 0
+WorksSlot told cfg rules number before after = WorksPart told cfg rules number before.part after.part after.end
+
+-- Its worker ended: the desk holds no ticket, and no link is lent to the reach.
+abbrev pub IsOver : {L D G T K S W O C : Type 0} → Slot (Part L D (WatchedState G T C) K S W (Option (LogState O))) L → Type 0
+IsOver slot = (slot.part.desk.desk.held ≡ []) × (is_some slot.part.reach.pooled.lent ≡ false)
+
+-- Of a slot its part's gear was left, what its desk left, and how its worker ended.
+pub record LeavesSlot {L D G T K S W O C V : Type 0} {N : SiteGhosts L} (slot : Slot (Part L D (WatchedState G T C) K S W (Option (LogState O))) L) (gear : Gear D G T K S O) (left : Leaving L V N) (end : WorkerEnd L) : Type 0 where
+  pub gear_left : gear ≡ gear_in slot.part
+  pub desk : DeskLeaves slot.part.desk left
+  pub ended : end ≡ slot.end
+
+-- Something was done in a slot, and then this was left of it.
+pub record DoneAndLeft {Q G V E : Type 0} (Did : ℕ → Q → Q → Type 0) (Leaves : Q → G → V → E → Type 0) (number : ℕ) (before : Q) (gear : G) (left : V) (end : E) : Type 0 where
+  pub after : Q
+  pub did : Did number before after
+  pub leaves : Leaves after gear left end

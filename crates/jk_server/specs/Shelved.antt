@@ -1,5 +1,5 @@
--- What the last cuts of a run did with the shelves, and how the closing ended by that.
-use Rattle.std.specs.Prelude.{ℕ, ◌≡◌, ◌⊎◌, List, [], length, map, Option}
+-- What the last cuts of a run did with the first gear's shelf, and how the closing ended by that.
+use Rattle.std.specs.Prelude.{ℕ, ◌≡◌, ◌⊎◌, List, [], Option}
 use Rattle.jk_io.specs.Told.{Rose}
 use Rattle.jk_model.specs.declared.journal.Entry.{Entry}
 use Rattle.jk_model.specs.declared.segment.Segment.{Segment}
@@ -11,43 +11,35 @@ use Rattle.site_closing.specs.Closings.{DiscordNote}
 use Rattle.site_closing.specs.OneHistory.{DiffersWhole, IsWhole}
 use Rattle.gear_parts.specs.declared.world.Gear.{Gear}
 use Rattle.gear_parts.specs.Cuts.{AddsCuts, AddsFront, ToFirst}
-use Rattle.gear_parts.specs.GearParts.{but_shelf}
-use Rattle.gear_parts.specs.declared.left.Left.{Left}
 use Rattle.jk_server.specs.declared.runs.ends.Closing.{Closing}
 use Rattle.jk_server.specs.declared.runs.ends.Closing.TheVariants as closing
-
--- The gears came back with what their workers left and with their shelves, but for the first shelf, for which `Kept` holds.
-pub record IsPutBack {D G T K S O : Type 0} (Kept : S → S → Type 0) (left : List (Left D G T K O)) (shelves : List S) (back : List (Gear D G T K S O)) : Type 0 where
-  pub paired : length left ≡ length shelves
-  pub left_put : map but_shelf back ≡ left
-  pub shelves_put : ToFirst Kept shelves (map (λ g. g.shelf) back)
 
 -- The Books at the end, with the history that made them what they are.
 pub record AreClosed (sizes firsts : List ℕ) (starts : List Opening) (seats : List SeatNote) (books : List Journal) : Type 0 where
   pub sited : AreSited sizes firsts books
   pub history : IsWhole starts seats books
 
--- The Books at the end were cut, and `Kept` says what became of them on the first shelf.
-abbrev pub KeepsCuts : {D G T K S O : Type 0} → (List Journal → S → S → Type 0) → (Ended : List Journal → Type 0) → List (Left D G T K O) → List S → (back : List (Gear D G T K S O)) → Type 0
-KeepsCuts Kept Ended left shelves back =
-    (books : List Journal) × Ended books × IsPutBack (Kept books) left shelves back
+-- The Books at the end were cut, and `Kept` says what became of them on the first gear's shelf. Else the gears came back as the
+-- workers left them.
+abbrev pub KeepsCuts : {D G T K S O : Type 0} → (List Journal → S → S → Type 0) → (Ended : List Journal → Type 0) → (left back : List (Gear D G T K S O)) → Type 0
+KeepsCuts Kept Ended left back = (books : List Journal) × Ended books × ToFirst (Kept books) left back
 
 -- Where the receipts of the workers differ first from the entries that the Books of a Site of this kind keep, which one history
 -- made what they are.
 abbrev pub IsDiscordAt : (sizes firsts : List ℕ) → (starts : List Opening) → (seats : List SeatNote) → DiscordNote → Type 0
 IsDiscordAt sizes firsts starts seats d = (entries : ℕ) × (receipts : List (ℕ × Entry)) × DiffersWhole starts seats sizes firsts entries receipts d
 
--- What each end of the closing says of what the workers left and of their shelves, and of the gears that came back.
-abbrev pub EndsSo : {D G T K S O L : Type 0} → (S → Option (List (ℕ × Segment))) → (S → ℕ) → (sizes firsts : List ℕ) → (starts : List Opening) → (seats : List SeatNote) → List (Left D G T K O) → List S → (back : List (Gear D G T K S O)) → Closing L → Type 0
-EndsSo shelved faults sizes firsts starts seats left shelves back closing.Kept = KeepsCuts (AddsCuts shelved) (AreClosed sizes firsts starts seats) left shelves back
-EndsSo shelved faults sizes firsts starts seats left shelves back closing.ShelfFault =
-    KeepsCuts (λ books old new. AddsFront shelved books old new × Rose (faults old) (faults new)) (AreClosed sizes firsts starts seats) left shelves back
-EndsSo shelved faults sizes firsts starts seats left shelves back (closing.Differs d) = IsDiscordAt sizes firsts starts seats d × (back ≡ [])
-EndsSo shelved faults sizes firsts starts seats left shelves back closing.NoMemory =
-    (back ≡ []) ⊎ KeepsCuts (AddsFront shelved) (AreClosed sizes firsts starts seats) left shelves back
+-- What each end of the closing says of the gears, as the workers left them and as they came back.
+abbrev pub EndsSo : {D G T K S O L : Type 0} → (S → Option (List (ℕ × Segment))) → (S → ℕ) → (sizes firsts : List ℕ) → (starts : List Opening) → (seats : List SeatNote) → (left back : List (Gear D G T K S O)) → Closing L → Type 0
+EndsSo shelved faults sizes firsts starts seats left back closing.Kept = KeepsCuts (AddsCuts shelved) (AreClosed sizes firsts starts seats) left back
+EndsSo shelved faults sizes firsts starts seats left back closing.ShelfFault =
+    KeepsCuts (λ books old new. AddsFront shelved books old new × Rose (faults old) (faults new)) (AreClosed sizes firsts starts seats) left back
+EndsSo shelved faults sizes firsts starts seats left back (closing.Differs d) = IsDiscordAt sizes firsts starts seats d × (back ≡ [])
+EndsSo shelved faults sizes firsts starts seats left back closing.NoMemory =
+    (back ≡ []) ⊎ KeepsCuts (AddsFront shelved) (AreClosed sizes firsts starts seats) left back
 
 -- The same of Books that are closed, whatever Site they are of and whichever history made them what they are.
-abbrev pub EndsByBooks : {D G T K S O L : Type 0} → (S → Option (List (ℕ × Segment))) → (S → ℕ) → List Journal → List (Left D G T K O) → List S → (back : List (Gear D G T K S O)) → Closing L → Type 0
-EndsByBooks shelved faults books left shelves back end =
+abbrev pub EndsByBooks : {D G T K S O L : Type 0} → (S → Option (List (ℕ × Segment))) → (S → ℕ) → List Journal → (left back : List (Gear D G T K S O)) → Closing L → Type 0
+EndsByBooks shelved faults books left back end =
     (sizes firsts : List ℕ) (starts : List Opening) (seats : List SeatNote)
-    → AreClosed sizes firsts starts seats books → EndsSo shelved faults sizes firsts starts seats left shelves back end
+    → AreClosed sizes firsts starts seats books → EndsSo shelved faults sizes firsts starts seats left back end

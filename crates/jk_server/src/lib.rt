@@ -3,8 +3,8 @@
 //! Source: own rules for the causes of a worker's end, what is done between two sessions, the order of a run's closing, and the
 //! statuses of both orders (docs/DECISIONS.md).
 //! Contract: `serve`, clause `serves`, and `contain`, clause `contains`, over a world that hands out gears; below them
-//! `serve_gears`, and `contain_gears` of gear_parts, clause `ran`, for gears; `run_serve`, clause `served`, and `serve_part`,
-//! clauses `served`, `fit` and `parts`, for parts; `run_container` of mini_container for containers. Read first:
+//! `serve_gears`, and `contain_gears` of gear_parts, clause `ran`, for gears; `serve_part`, clauses `served`, `fit` and `parts`,
+//! for a part; `run_container` of mini_container for containers. Read first:
 //! specs/Commands.antt; then specs/Runs.antt, over specs/Served.antt and client_session's specs/Sessions.antt;
 //! specs/Closings.antt, and gear_parts' specs/Containers.antt.
 //! Errors: an order's end is a `CommandEnd`, which tells its status; a run's is `NoMemory`, after which no gear comes back, or
@@ -18,16 +18,16 @@ mod runs;
 mod serving;
 mod workers;
 
-pub use gear_parts::{ContainerRun, GearOrder, Outside, OutsideList, Part, contain_gears};
+pub use gear_parts::{ContainerRun, GearOrder, Part, contain_gears};
 pub use mini_container::{
     ContainerRunEnd, ContainerWorker, ContainerWorkerList, DoorList, run_container,
 };
 pub use orders::container::{ContainerOrder, MOST_ROUTE_BYTES, contain};
 pub use orders::ends::CommandEnd;
 pub use orders::serve::{ServeOrder, cut_at, serve, watch_plan};
-pub use part::{ServeEnd, WorkerEnd, WorkerEndList};
+pub use part::{WorkerEnd, WorkerEndList};
 pub use runs::ends::{Closing, SiteRun};
 pub use runs::parts::{SitePlan, WatchPlan};
 pub use runs::serve::serve_gears;
 pub use serving::serve_part;
-pub use workers::{MAX_WORKERS, run_serve};
+pub use workers::MAX_WORKERS;

@@ -1,8 +1,7 @@
 //! What a worker works with, why it ends, and what it leaves.
 
-use gear_parts::OutsideList;
 use jk_io::ListOf;
-use locked_balancer::{Leaving, SiteName, SiteStray};
+use locked_balancer::SiteStray;
 use site_config::Config;
 use uri_map::UriMap;
 
@@ -33,10 +32,10 @@ pub enum WorkerEnd<L> {
 /// How the workers ended, in the order of their parts.
 pub type WorkerEndList<L> = ListOf<WorkerEnd<L>>;
 
-/// How the workers ended and what they left, an item for each in each list, in the order of their parts.
+/// How the workers of a run ended, what their desks left, and their gears, in order; before that, the room for it.
 #[derive(Drop)]
-pub struct ServeEnd<L: SiteName, D, R, K, S, Y> {
-    pub workers: WorkerEndList<L>,
-    pub leaving: ListOf<Leaving<L, S>>,
-    pub outside: OutsideList<D, R, K, Y>,
+pub(crate) struct Ran<L, V, G> {
+    pub(crate) workers: Vec<WorkerEnd<L>>,
+    pub(crate) leaving: Vec<V>,
+    pub(crate) gears: Vec<G>,
 }

@@ -3,5 +3,4 @@ pub(crate) mod closing;
 pub(crate) mod ends;
 pub(crate) mod new_site;
 pub(crate) mod parts;
-pub(crate) mod ran;
 pub(crate) mod serve;

@@ -1,21 +1,27 @@
-//! A worker for each part.
-ghost use Rattle.std.specs.Prelude.{◌≡◌, ◌<◌, ◌≤◌, ℕ, [], length, map, slice_index_or, vec_capacity, vec_len, IfOk};
+//! The slots of a run: a worker for each, which works with the part of a gear.
+ghost use Rattle.std.specs.Prelude.{◌≡◌, ◌+◌, ◌<◌, ◌≤◌, ℕ, [], length, map, slice_index_or, vec_capacity, vec_len, IfOk};
 ghost use Rattle.std.specs.List.{All};
+ghost use Rattle.gear_parts.specs.GearParts.{start_by};
 ghost use Rattle.gear_parts.specs.Logs.{log_tells};
-ghost use Rattle.jk_server.specs.Parts.{AllFour, AreServedParts, InEach, LeavesPart};
+ghost use Rattle.gear_parts.specs.Putting.{PutsOne};
+ghost use Rattle.jk_server.specs.Parts.{AllFour, AreDone, InEach, IsOver, LeavesSlot, WorksSlot, slot_start};
 ghost use Rattle.jk_server.specs.PartTells.{part_tells};
-ghost use Rattle.jk_server.specs.Rooms.{HasRoom, HasSpace, PutsLeft, parts_in};
+ghost use Rattle.jk_server.specs.Rooms.{HasRoom, HasSpace, PutsLeft};
 ghost use Rattle.jk_server.specs.Worker.{MayBegin};
 
-use crate::part::{ServeEnd, WorkerEnd};
+use crate::part::{Ran, WorkerEnd};
 use crate::serving::serve_part;
-use gear_parts::{Outside, Part, WorkerLog};
-use jk_io::{Clock, Door, ListOf, NoMemory, Reach};
-use locked_balancer::{Leaving, SharedSite, Shelf, SiteName};
+use conn_pool::{Tape, WatchedReach};
+use gear_parts::{Common, Gear, GearLog, Part, WorkerLog, gear_of, part_of};
+use jk_io::{Clock, Dial, Door, NoMemory, Reach};
+use locked_balancer::{Leaving, Shelf, SiteName};
+use request_log::Timed;
 use site_config::Config;
 use std::alloc::Global;
 use std::sync::Wait;
+use std::sync::ledger::Share;
 use std::thread::{self, Threads};
+use std::vec::IntoIter;
 use uri_map::UriMap;
 
 /// The most worker threads of a run.
@@ -28,99 +34,89 @@ pub(crate) struct Slot<P, L> {
     pub(crate) end: WorkerEnd<L>,
 }
 
-/// The memory for what the workers of a run leave, and what they left.
-#[derive(Drop)]
-pub(crate) struct Emptied<L, V, O> {
-    pub(crate) workers: Vec<WorkerEnd<L>>,
-    pub(crate) leaving: Vec<V>,
-    pub(crate) outside: Vec<O>,
-}
+/// A slot with the part of a gear.
+pub(crate) type GearSlot<'s, 'r, L, D, G, T, K, S, O, R> = Slot<
+    Part<'s, 'r, L, D, WatchedReach<'s, 'r, G, T, R>, K, S, R, GearLog<'s, O>>,
+    L,
+>;
 
-/// The memory of a run: a slot for each worker, with its part, and room for what each leaves.
-#[derive(Drop)]
-struct Room<P, L, V, O> {
-    slots: Vec<Slot<P, L>>,
-    emptied: Emptied<L, V, O>,
-}
-
-/// Serves each part by a worker of its own, which has the part's place as its number, and waits for all of them. The desks
-/// of the parts are desks of `site`, and hold it themselves. After `NoMemory` no door was asked.
-pub fn run_serve<
+/// Puts the part of each gear into a slot, with one part of the share.
+pub(crate) fn fill_slots<
     's,
     'r,
-    L: SiteName + Send + Sync,
-    D: Door + Drop + Send,
-    R: Reach + Drop + Send,
-    K: Clock + Drop + Send,
-    S: Shelf + Drop + Send,
-    W: Threads + Wait + Sync,
-    Y: WorkerLog + Drop + Send,
+    L: SiteName,
+    D: Drop,
+    G: Dial + Drop,
+    T: Tape + Drop,
+    K: Drop,
+    S: Shelf + Drop,
+    O: Timed + Drop,
+    R,
 >(
-    rt: &W,
     alloc: Global,
-    cfg: &Config,
-    map: &UriMap,
-    site: &SharedSite<'r, L, W>,
-    parts: Vec<Part<'s, 'r, L, D, R, K, S, W, Y>>,
-) -> Result<ServeEnd<L, D, R, K, S, Y>, NoMemory>
-where
-    D::L: Send,
-    requires few { vec_len parts ≤ MAX_WORKERS }
-    requires ready { All (λ p. MayBegin cfg.now map.now p.desk.desk (R.beside p.reach) (Y.broken_by p.log)) parts.items }
-    ensures served { IfOk result (AreServedParts (part_tells D.Door D.L.Meanings K.Clock R.Meanings S.Shelf (log_tells Y.gained Y.greets Y.broken_by Y.log_faults) D.L.may_wait)
-        cfg.now map.now parts.entry.items) }
+    common: &Common<'s, 'r, L, G, R>,
+    share: Share<L>,
+    gears: Vec<Gear<D, G, T, K, S, O>>,
+    slots: &mut Vec<GearSlot<'s, 'r, L, D, G, T, K, S, O, R>>,
+)
+    requires none { slots.old.items ≡ [] }
+    requires room { vec_len gears ≤ vec_capacity slots.old }
+    requires parts { share.parts ≡ vec_len gears }
+    requires amount { share.amount ≡ 0 }
+    requires idle { All (λ g. T.is_idle g.tape) gears.items }
+    ensures starts { map slot_start slots.new.items ≡ map (start_by common.now L.sizes) gears.items }
 {
-    let _site = site;
-    match room_of(alloc, parts) {
-        Ok(room) => Ok(serve_in(rt, alloc, cfg, map, room)),
-        Err(NoMemory) => Err(NoMemory),
+    let mut share = share;
+    let mut gears = gears.into_iter();
+    put_slots(alloc, common, &mut share, &mut gears, slots);
+}
+
+/// As `fill_slots`, over gears and a share that the caller lends.
+fn put_slots<'s, 'r, L: SiteName, D, G: Dial, T: Tape, K, S: Shelf, O: Timed, R>(
+    alloc: Global,
+    common: &Common<'s, 'r, L, G, R>,
+    share: &mut Share<L>,
+    gears: &mut IntoIter<Gear<D, G, T, K, S, O>>,
+    slots: &mut Vec<GearSlot<'s, 'r, L, D, G, T, K, S, O, R>>,
+)
+    requires none { slots.old.items ≡ [] }
+    requires room { length gears.old.rest.items ≤ vec_capacity slots.old }
+    requires parts { share.old.parts ≡ length gears.old.rest.items }
+    requires amount { share.old.amount ≡ 0 }
+    requires idle { All (λ g. T.is_idle g.tape) gears.old.rest.items }
+    ensures starts { map slot_start slots.new.items ≡ map (start_by common.now L.sizes) gears.old.rest.items }
+{
+    'gears: while let Some(gear) = gears.next() {
+        put_slot(alloc, common, share, gear, slots);
     }
 }
 
-/// Puts each part into a slot, and makes room for what the workers leave.
-fn room_of<P: Drop, L, V: Drop, O: Drop>(
+/// Adds a slot with the part of a gear at the end.
+fn put_slot<'s, 'r, L: SiteName, D, G: Dial, T: Tape, K, S: Shelf, O: Timed, R>(
     alloc: Global,
-    parts: Vec<P>,
-) -> Result<Room<P, L, V, O>, NoMemory>
-    ensures filled { IfOk result (λ r. map (λ s. s.part) r.slots.items ≡ parts.items) }
-    ensures room { IfOk result (λ r. HasRoom (length r.slots.items) r.emptied) }
+    common: &Common<'s, 'r, L, G, R>,
+    share: &mut Share<L>,
+    gear: Gear<D, G, T, K, S, O>,
+    slots: &mut Vec<GearSlot<'s, 'r, L, D, G, T, K, S, O, R>>,
+)
+    requires some { 0 < share.old.parts }
+    requires amount { share.old.amount ≡ 0 }
+    requires idle { T.is_idle gear.tape }
+    requires room { vec_len slots.old < vec_capacity slots.old }
+    ensures slot { PutsOne (λ s. slot_start s ≡ start_by common.now L.sizes gear) slots.old.items slots.new.items }
+    ensures share { (share.new.parts + 1 ≡ share.old.parts) × (share.new.amount ≡ 0) }
+    ensures len { vec_len slots.new ≡ vec_len slots.old + 1 }
+    ensures capacity { vec_capacity slots.new ≡ vec_capacity slots.old }
 {
-    let mut room = room_for(alloc, parts.len())?;
-    fill_slots(&mut room.slots, parts);
-    Ok(room)
+    let mine = share.split_off(1, 0);
+    slots.push_reserved(Slot {
+        part: part_of(alloc, common, mine, gear),
+        end: WorkerEnd::NoMemory,
+    });
 }
 
-/// Makes room for `count` workers.
-fn room_for<P: Drop, L, V: Drop, O: Drop>(
-    alloc: Global,
-    count: usize,
-) -> Result<Room<P, L, V, O>, NoMemory>
-    ensures empty { IfOk result (λ r. r.slots.items ≡ []) }
-    ensures slots { IfOk result (λ r. count ≤ vec_capacity r.slots) }
-    ensures room { IfOk result (λ r. HasRoom count r.emptied) }
-{
-    Ok(Room {
-        slots: Vec::with_capacity(alloc, count)?,
-        emptied: emptied_for(alloc, count)?,
-    })
-}
-
-/// Makes room for what `count` workers leave.
-fn emptied_for<L, V: Drop, O: Drop>(
-    alloc: Global,
-    count: usize,
-) -> Result<Emptied<L, V, O>, NoMemory>
-    ensures { IfOk result (λ r. HasRoom count r) }
-{
-    Ok(Emptied {
-        workers: Vec::with_capacity(alloc, count)?,
-        leaving: Vec::with_capacity(alloc, count)?,
-        outside: Vec::with_capacity(alloc, count)?,
-    })
-}
-
-/// A run in its room.
-fn serve_in<
+/// Serves the part in each slot by a worker of its own, which has the slot's place as its number, and waits for all of them.
+pub(crate) fn serve_slots<
     's,
     'r,
     L: SiteName + Send + Sync,
@@ -135,15 +131,14 @@ fn serve_in<
     alloc: Global,
     cfg: &Config,
     map: &UriMap,
-    mut room: Room<Part<'s, 'r, L, D, R, K, S, W, Y>, L, Leaving<L, S>, Outside<D, R, K, Y>>,
-) -> ServeEnd<L, D, R, K, S, Y>
+    slots: &mut Vec<Slot<Part<'s, 'r, L, D, R, K, S, W, Y>, L>>,
+)
 where
     D::L: Send,
-    requires few { length room.slots.items ≤ MAX_WORKERS }
-    requires ready { All (λ s. MayBegin cfg.now map.now s.part.desk.desk (R.beside s.part.reach) (Y.broken_by s.part.log)) room.slots.items }
-    requires room { HasRoom (length room.slots.items) room.emptied }
-    ensures served { AreServedParts (part_tells D.Door D.L.Meanings K.Clock R.Meanings S.Shelf (log_tells Y.gained Y.greets Y.broken_by Y.log_faults) D.L.may_wait)
-        cfg.now map.now (parts_in room.entry.slots.items) result }
+    requires few { vec_len slots.old ≤ MAX_WORKERS }
+    requires ready { All (λ s. MayBegin cfg.now map.now s.part.desk.desk (R.beside s.part.reach) (Y.broken_by s.part.log)) slots.old.items }
+    ensures served { let told = part_tells D.Door D.L.Meanings K.Clock R.Meanings S.Shelf (log_tells Y.gained Y.greets Y.broken_by Y.log_faults) D.L.may_wait in
+        AreDone (WorksSlot told cfg.now map.now) 0 slots.old.items slots.new.items }
 {
     let crew = Crew {
         rt,
@@ -151,22 +146,7 @@ where
         cfg,
         map,
     };
-    work_in_all(rt, room.slots.as_mut_slice(), &crew);
-    empty_room(room)
-}
-
-/// Puts each part into a slot.
-fn fill_slots<P: Drop, L>(slots: &mut Vec<Slot<P, L>>, parts: Vec<P>)
-    requires none { slots.old.items ≡ [] }
-    requires room { vec_len parts ≤ vec_capacity slots.old }
-    ensures { map (λ s. s.part) slots.new.items ≡ parts.items }
-{
-    'parts: for part in parts {
-        slots.push_reserved(Slot {
-            part,
-            end: WorkerEnd::NoMemory,
-        });
-    }
+    work_in_all(rt, slots.as_mut_slice(), &crew);
 }
 
 /// Work that is done in each slot of a run, by the slot's place.
@@ -219,7 +199,7 @@ impl<'a, 's, 'r, L: SiteName, D: Door, R: Reach, K: Clock, S: Shelf, W: Wait, Y:
     ghost use Rattle.std.specs.Prelude.{◌<◌};
     ghost use Rattle.gear_parts.specs.Logs.{log_tells};
     ghost use Rattle.jk_server.specs.declared.workers.TheConstants.{MAX_WORKERS};
-    ghost use Rattle.jk_server.specs.Parts.{WorksPart};
+    ghost use Rattle.jk_server.specs.Parts.{WorksSlot};
     ghost use Rattle.jk_server.specs.PartTells.{part_tells};
     ghost use Rattle.jk_server.specs.Worker.{MayBegin};
 
@@ -227,7 +207,7 @@ impl<'a, 's, 'r, L: SiteName, D: Door, R: Reach, K: Clock, S: Shelf, W: Wait, Y:
         × MayBegin crew.cfg.now crew.map.now slot.part.desk.desk (R.beside slot.part.reach) (Y.broken_by slot.part.log) };
 
     ghost did = { λ crew number a b. let told = part_tells D.Door D.L.Meanings K.Clock R.Meanings S.Shelf (log_tells Y.gained Y.greets Y.broken_by Y.log_faults) D.L.may_wait in
-        WorksPart told crew.cfg.now crew.map.now number a.part b.part b.end };
+        WorksSlot told crew.cfg.now crew.map.now number a b };
 
     fn work(&self, number: usize, slot: &mut Slot<Part<'s, 'r, L, D, R, K, S, W, Y>, L>) {
         slot.end = serve_part(
@@ -241,115 +221,90 @@ impl<'a, 's, 'r, L: SiteName, D: Door, R: Reach, K: Clock, S: Shelf, W: Wait, Y:
     }
 }
 
-/// Takes the slots of a run apart.
-fn empty_room<'s, 'r, L: SiteName, D: Drop, R: Drop, K: Drop, S: Shelf + Drop, W, Y: Drop>(
-    room: Room<Part<'s, 'r, L, D, R, K, S, W, Y>, L, Leaving<L, S>, Outside<D, R, K, Y>>,
-) -> ServeEnd<L, D, R, K, S, Y>
-    requires none_held { All (λ s. s.part.desk.desk.held ≡ []) room.slots.items }
-    requires room { HasRoom (length room.slots.items) room.emptied }
-    ensures { AllFour (λ s out left end. LeavesPart s.part out left × (end ≡ s.end))
-        room.entry.slots.items result.outside result.leaving result.workers }
+/// Makes room for what `count` workers leave.
+pub(crate) fn room_for<L, V: Drop, G: Drop>(
+    alloc: Global,
+    count: usize,
+) -> Result<Ran<L, V, G>, NoMemory>
+    ensures { IfOk result (λ r. HasRoom count r) }
 {
-    let Room { slots, emptied } = room;
-    let mut emptied = emptied;
-    empty_slots(slots, &mut emptied);
-    end_of(emptied)
+    Ok(Ran {
+        workers: Vec::with_capacity(alloc, count)?,
+        leaving: Vec::with_capacity(alloc, count)?,
+        gears: Vec::with_capacity(alloc, count)?,
+    })
 }
 
-/// A slot that can be taken apart into what its worker leaves.
-trait Apart<L, V, O> {
-    ghost use Rattle.jk_server.specs.declared.part.WorkerEnd.{WorkerEnd};
-
-    // it can be taken apart
-    ghost is_over: { Self → Type 0 };
-
-    // taken apart, it leaves these
-    ghost leaves: { Self → O → V → WorkerEnd L → Type 0 };
-
-    fn apart(self) -> (O, V, WorkerEnd<L>)
-        requires { is_over self }
-        ensures { leaves self result.0 result.1 result.2 };
-}
-
-/// Takes all slots apart.
-fn empty_slots<Q: Apart<L, V, O> + Drop, L, V: Drop, O: Drop>(
-    slots: Vec<Q>,
-    emptied: &mut Emptied<L, V, O>,
+/// Takes all slots apart, once the workers ended.
+pub(crate) fn empty_slots<
+    's,
+    'r,
+    L: SiteName,
+    D: Drop,
+    G: Dial + Drop,
+    T: Tape + Drop,
+    K: Drop,
+    S: Shelf + Drop,
+    O: Timed + Drop,
+    R,
+>(
+    slots: Vec<GearSlot<'s, 'r, L, D, G, T, K, S, O, R>>,
+    ran: &mut Ran<L, Leaving<L, ()>, Gear<D, G, T, K, S, O>>,
 )
-    requires over { All (λ q. Q.is_over q) slots.items }
-    requires room { HasRoom (length slots.items) emptied.old }
-    ensures { AllFour (λ q out left end. Q.leaves q out left end)
-        slots.items emptied.new.outside.items emptied.new.leaving.items emptied.new.workers.items }
+    requires over { All (λ s. IsOver s) slots.items }
+    requires room { HasRoom (vec_len slots) ran.old }
+    ensures { AllFour (λ s gear left end. LeavesSlot s gear left end)
+        slots.entry.items ran.new.gears.items ran.new.leaving.items ran.new.workers.items }
 {
-    'slots: for slot in slots {
-        let (out, left, end) = slot.apart();
-        put_left(emptied, end, left, out);
+    let mut slots = slots.into_iter();
+    empty_each(&mut slots, ran);
+}
+
+/// As `empty_slots`, over slots that the caller lends.
+fn empty_each<
+    's,
+    'r,
+    L: SiteName,
+    D: Drop,
+    G: Dial + Drop,
+    T: Tape + Drop,
+    K: Drop,
+    S: Shelf + Drop,
+    O: Timed + Drop,
+    R,
+>(
+    slots: &mut IntoIter<GearSlot<'s, 'r, L, D, G, T, K, S, O, R>>,
+    ran: &mut Ran<L, Leaving<L, ()>, Gear<D, G, T, K, S, O>>,
+)
+    requires over { All (λ s. IsOver s) slots.old.rest.items }
+    requires room { HasRoom (length slots.old.rest.items) ran.old }
+    ensures { AllFour (λ s gear left end. LeavesSlot s gear left end)
+        slots.old.rest.items ran.new.gears.items ran.new.leaving.items ran.new.workers.items }
+{
+    'slots: while let Some(slot) = slots.next() {
+        let (gear, left, end) = leave_slot(slot);
+        put_left(ran, end, left, gear);
     }
+}
+
+/// Takes a slot apart into the gear, what the worker's desk left, and how the worker ended.
+fn leave_slot<'s, 'r, L: SiteName, D, G: Dial, T: Tape, K, S: Shelf, O: Timed, R>(
+    slot: GearSlot<'s, 'r, L, D, G, T, K, S, O, R>,
+) -> (Gear<D, G, T, K, S, O>, Leaving<L, ()>, WorkerEnd<L>)
+    requires over { IsOver slot }
+    ensures left { LeavesSlot slot.entry result.0 result.1 result.2 }
+{
+    let Slot { part, end } = slot;
+    let (gear, left) = gear_of(part);
+    (gear, left, end)
 }
 
 /// Adds what a worker left, after what the workers before it left.
-fn put_left<L, V: Drop, O: Drop>(emptied: &mut Emptied<L, V, O>, end: WorkerEnd<L>, left: V, out: O)
-    requires { HasSpace 1 emptied.old }
-    ensures { PutsLeft emptied.old emptied.new end left out }
+fn put_left<L, V: Drop, G: Drop>(ran: &mut Ran<L, V, G>, end: WorkerEnd<L>, left: V, gear: G)
+    requires { HasSpace 1 ran.old }
+    ensures { PutsLeft ran.old ran.new end left gear }
 {
-    emptied.workers.push_reserved(end);
-    emptied.leaving.push_reserved(left);
-    emptied.outside.push_reserved(out);
-}
-
-/// How the workers of a run ended, and what they left.
-fn end_of<L: SiteName, D, R, K, S, Y>(
-    emptied: Emptied<L, Leaving<L, S>, Outside<D, R, K, Y>>,
-) -> ServeEnd<L, D, R, K, S, Y>
-    ensures { (result.outside ≡ emptied.outside.items) × (result.leaving ≡ emptied.leaving.items) × (result.workers ≡ emptied.workers.items) }
-{
-    let Emptied {
-        workers,
-        leaving,
-        outside,
-    } = emptied;
-    ServeEnd {
-        workers: ListOf::from_vec(workers),
-        leaving: ListOf::from_vec(leaving),
-        outside: ListOf::from_vec(outside),
-    }
-}
-
-impl<'s, 'r, L: SiteName, D, R, K, S: Shelf, W, Y> Apart<L, Leaving<L, S>, Outside<D, R, K, Y>>
-    for Slot<Part<'s, 'r, L, D, R, K, S, W, Y>, L> {
-    ghost use Rattle.std.specs.Prelude.{◌≡◌, []};
-    ghost use Rattle.jk_server.specs.Parts.{LeavesPart};
-
-    ghost is_over = { λ slot. slot.part.desk.desk.held ≡ [] };
-
-    ghost leaves = { λ slot out left end. LeavesPart slot.part out left × (end ≡ slot.end) };
-
-    fn apart(self) -> (Outside<D, R, K, Y>, Leaving<L, S>, WorkerEnd<L>) {
-        let Slot { part, end } = self;
-        let (out, left) = leave_part(part);
-        (out, left, end)
-    }
-}
-
-/// Takes a part apart.
-fn leave_part<L: SiteName, D, R, K, S: Shelf, W, Y>(
-    part: Part<'_, '_, L, D, R, K, S, W, Y>,
-) -> (Outside<D, R, K, Y>, Leaving<L, S>)
-    requires none_held { part.desk.desk.held ≡ [] }
-    ensures { LeavesPart part.entry result.0 result.1 }
-{
-    let Part {
-        door,
-        reach,
-        clock,
-        desk,
-        log,
-    } = part;
-    let outside = Outside {
-        door,
-        reach,
-        clock,
-        log,
-    };
-    (outside, desk.leave())
+    ran.workers.push_reserved(end);
+    ran.leaving.push_reserved(left);
+    ran.gears.push_reserved(gear);
 }

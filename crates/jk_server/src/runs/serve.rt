@@ -122,38 +122,8 @@ fn pools_for<'r, C: Drop, R>(
     Ok(pools)
 }
 
-/// Serves over the Site with this name: makes the pools of idle links, and runs the workers with them.
+/// Serves over the Site with this name, by workers that share it and the pools of idle links.
 fn over_site<
-    L: SiteName + Send + Sync,
-    D: Door + Drop + Send,
-    G: Dial + Drop + Send,
-    T: Tape + Drop + Send,
-    K: Clock + Drop + Send,
-    S: Shelf + Drop + Send,
-    O: Timed + Drop + Send,
-    R: Threads + Wait + Sync,
->(
-    rt: &R,
-    alloc: Global,
-    plan: SitePlan<'_>,
-    new: NewSite,
-    gears: Vec<Gear<D, G, T, K, S, O>>,
-) -> Result<SiteRun<L, Gear<D, G, T, K, S, O>>, NoMemory>
-where
-    D::L: Send,
-    requires new { IsNewSite L.name L.parts L.starts L.sizes L.firsts L.cut_at plan.cut plan.cfg.now.lbs new }
-    requires ready { IsReady T.is_idle L.parts plan.cfg.now plan.map.now (vec_len gears) gears.items }
-    ensures ran { let told = run_tells D.Door T.Tape K.Clock D.L.Meanings S.Shelf O.Meanings D.L.may_wait in
-        IfOk result (RunsStarted told plan.entry gears.items) }
-{
-    match pools_for(rt, alloc, plan.cfg) {
-        Ok(pools) => over_pools(rt, alloc, plan, new, gears, &pools),
-        Err(NoMemory) => Err(NoMemory),
-    }
-}
-
-/// As `over_site`, with these pools of idle links.
-fn over_pools<
     'r,
     L: SiteName + Send + Sync,
     D: Door + Drop + Send,
@@ -169,21 +139,20 @@ fn over_pools<
     plan: SitePlan<'_>,
     new: NewSite,
     gears: Vec<Gear<D, G, T, K, S, O>>,
-    pools: &Pools<'r, Idle<AgedLink<G::L>>, R>,
 ) -> Result<SiteRun<L, Gear<D, G, T, K, S, O>>, NoMemory>
 where
     D::L: Send,
-    requires pool_sizes { pools.now ≡ pool_table plan.cfg.now.lbs }
     requires new { IsNewSite L.name L.parts L.starts L.sizes L.firsts L.cut_at plan.cut plan.cfg.now.lbs new }
     requires ready { IsReady T.is_idle L.parts plan.cfg.now plan.map.now (vec_len gears) gears.items }
     ensures ran { let told = run_tells D.Door T.Tape K.Clock D.L.Meanings S.Shelf O.Meanings D.L.may_wait in
         IfOk result (RunsStarted told plan.entry gears.items) }
 {
     let watch = new.watch;
+    let pools = pools_for(rt, alloc, plan.cfg)?;
     let (shared, share) = shared_site::<L, R>(rt, alloc, plan, new)?;
     let common = Common {
         site: &shared,
-        pools,
+        pools: &pools,
         cfg: plan.cfg,
         watch,
         format: plan.format,
