@@ -28,7 +28,6 @@ use Rattle.jk_server.specs.declared.orders.ends.CommandEnd.{CommandEnd}
 use Rattle.jk_server.specs.declared.orders.ends.CommandEnd.TheVariants as end
 use Rattle.gear_parts.specs.declared.order.GearOrder.{GearOrder}
 use Rattle.jk_server.specs.declared.orders.container.ContainerOrder.{ContainerOrder}
-use Rattle.jk_server.specs.declared.orders.serve.FormattedOrder.{FormattedOrder}
 use Rattle.jk_server.specs.declared.orders.serve.ServeOrder.{ServeOrder}
 use Rattle.site_reports.specs.declared.site.ReadSite.{ReadSite}
 
@@ -225,9 +224,9 @@ pub record Contains {W G C S O X Z L : Type 0} (told : Tells W G C S O X Z) (rou
 -- ---- the same of what a command goes over, as it was before and is after it
 
 -- The workers of a site were wanted.
-abbrev pub WorksSite : {W G C S O X Z L : Type 0} → Tells W G C S O X Z → ReadSite → FormattedOrder → (before after : W) → CommandEnd L → Type 0
-WorksSite told site of before after ended =
-    Works of.order.threads (RunsLogged told site.cfg site.map of.format.now of.order.threads (wants_of of.order.asked)) (told.world before) (told.world after) ended
+abbrev pub WorksSite : {W G C S O X Z L : Type 0} → Tells W G C S O X Z → ServeOrder → List FormatPart → ReadSite → (before after : W) → CommandEnd L → Type 0
+WorksSite told order format site before after ended =
+    Works order.threads (RunsLogged told site.cfg site.map format order.threads (wants_of order.asked)) (told.world before) (told.world after) ended
 
 -- The workers of a container were wanted.
 abbrev pub WorksContainer : {W G C S O X Z L : Type 0} → Tells W G C S O X Z → AppConfig → (threads : ℕ) → GearOrder → (before after : W) → CommandEnd L → Type 0
@@ -238,12 +237,6 @@ WorksContainer told app threads asked before after ended =
 abbrev pub ContainsAsked : {W G C S O X Z L : Type 0} → Tells W G C S O X Z → ContainerOrder → (before after : W) → CommandEnd L → Type 0
 ContainsAsked told order before after ended =
     ContainsLinks told order.route.now order.threads (wants_of order.asked) (told.world before) (told.world after) ended
-
--- `serve` over its files, once its format was read, whatever the input.
-abbrev pub ServesFormatted : {F O W G C S Y X Z L : Type 0} → CommandTells F O W G C S Y X Z → FormattedOrder → (before after : F × O × W) → CommandEnd L → Type 0
-ServesFormatted told of before after ended =
-    OfFiles (told.files before.0) (λ outside. ServesFiles told.world outside of.order.workers.now of.order.map.now of.format.now of.order.threads (wants_of of.order.asked)
-    (command_side told before) (command_side told after) ended)
 
 -- `serve` over its files, whatever the input.
 abbrev pub ServesOrder : {F O W G C S Y X Z L : Type 0} → CommandTells F O W G C S Y X Z → ServeOrder → (before after : F × O × W) → CommandEnd L → Type 0

@@ -3,7 +3,7 @@ ghost use Rattle.std.specs.Prelude.{◌≡◌, ◌≤◌, [], length};
 ghost use Rattle.std.specs.Option.{option_copied};
 ghost use Rattle.jk_io.specs.Told.{HasCause};
 ghost use Rattle.request_log.specs.Formats.{refusal_line as line_of_refusal};
-ghost use Rattle.jk_server.specs.Commands.{cut_at, format_text as text_of_format, telling, ServesFormatted, ServesOrder, WorksSite, WritesLine};
+ghost use Rattle.jk_server.specs.Commands.{cut_at, format_text as text_of_format, telling, ServesOrder, WorksSite, WritesLine};
 ghost use Rattle.jk_server.specs.Ends.{end_of_run, returned};
 ghost use Rattle.jk_server.specs.Watches.{watch_plan};
 ghost use Rattle.gear_parts.specs.Worlds.{HandsAndTakes, world_side};
@@ -37,13 +37,6 @@ pub struct ServeOrder<'a> {
     pub watch: Option<WatchPlan>,
     /// What the gears are for, but for their site.
     pub asked: GearOrder<'a>,
-}
-
-/// An order whose format was read.
-#[derive(Clone, Copy)]
-pub(crate) struct FormattedOrder<'a> {
-    pub(crate) order: ServeOrder<'a>,
-    pub(crate) format: &'a Format,
 }
 
 /// The format of the logs, as it is written.
@@ -129,17 +122,17 @@ fn settle<W: World>(world: &mut W, run: SiteRun<Brand, GearOf<W>>) -> CommandEnd
 fn serve_site<W: World, R: Threads + Wait + Sync>(
     rt: &R,
     alloc: Global,
+    order: ServeOrder<'_>,
+    format: &Format,
     site: &ReadSite,
-    of: &FormattedOrder<'_>,
     world: &mut W,
 ) -> CommandEnd<Brand>
 where
     <W::D as Door>::L: Send,
-    requires threads { (1 ≤ of.now.order.threads) × (of.now.order.threads ≤ MAX_WORKERS) }
+    requires threads { (1 ≤ order.threads) × (order.threads ≤ MAX_WORKERS) }
     ensures { WorksSite ⟦<W as ToldWorld>⟧.told
-        site.now of.now world.old world.new result }
+        order.entry format.now site.now world.old world.new result }
 {
-    let order = of.order;
     let asked = order.asked.over(&site.cfg);
     let gears = match take_gears(alloc, world, order.threads, &asked) {
         Ok(gears) => gears,
@@ -153,34 +146,12 @@ where
         cfg: &site.cfg,
         map: &site.map,
         cut: order.cut,
-        format: of.format,
+        format,
         watch: order.watch,
     };
     match serve_gears(rt, alloc, plan, gears) {
         Ok(ran) => settle(world, ran),
         Err(NoMemory) => CommandEnd::Status(NO_MEMORY),
-    }
-}
-
-/// `serve`, once its format was read.
-fn serve_files<F: Files, O: Sink, W: World, R: Threads + Wait + Sync>(
-    rt: &R,
-    alloc: Global,
-    of: FormattedOrder<'_>,
-    files: &mut F,
-    out: &mut O,
-    world: &mut W,
-) -> CommandEnd<Brand>
-where
-    <W::D as Door>::L: Send,
-    requires threads { (1 ≤ of.order.threads) × (of.order.threads ≤ MAX_WORKERS) }
-    ensures serves { ServesFormatted (telling F.Files O.Meanings ⟦<W as ToldWorld>⟧.told)
-        of.entry (files.old, out.old, world.old) (files.new, out.new, world.new) result }
-{
-    match read_site(alloc, files, of.order.workers, of.order.map) {
-        Ok(Judged::Site(site)) => serve_site(rt, alloc, &site, &of, world),
-        Ok(Judged::Refused(line)) => refuse(out, &line),
-        Err(error) => end_by(error),
     }
 }
 
@@ -199,15 +170,14 @@ where
     ensures serves { ServesOrder (telling F.Files O.Meanings ⟦<W as ToldWorld>⟧.told)
         order.entry (files.old, out.old, world.old) (files.new, out.new, world.new) result }
 {
-    match read_format(alloc, format_text(order.format)) {
-        Ok(format) => {
-            let of = FormattedOrder {
-                order,
-                format: &format,
-            };
-            serve_files(rt, alloc, of, files, out, world)
-        }
-        Err(FormatError::BadFormat { at }) => refuse_format(alloc, at, out),
-        Err(FormatError::NoMemory) => CommandEnd::Status(NO_MEMORY),
+    let format = match read_format(alloc, format_text(order.format)) {
+        Ok(format) => format,
+        Err(FormatError::BadFormat { at }) => return refuse_format(alloc, at, out),
+        Err(FormatError::NoMemory) => return CommandEnd::Status(NO_MEMORY),
+    };
+    match read_site(alloc, files, order.workers, order.map) {
+        Ok(Judged::Site(site)) => serve_site(rt, alloc, order, &format, &site, world),
+        Ok(Judged::Refused(line)) => refuse(out, &line),
+        Err(error) => end_by(error),
     }
 }

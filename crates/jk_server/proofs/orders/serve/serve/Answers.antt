@@ -1,11 +1,43 @@
 use Rattle.std.proofs.Common.{refl}
-use Rattle.jk_server.specs.Commands.{Formatted, NoFormat, Unformatted}
+use Rattle.jk_server.specs.Commands.{Formatted, NoFormat, Refused, Served, Unformatted}
+use Rattle.jk_server.proofs.CommandLaws.{unread}
 use Rattle.jk_server.proofs.orders.serve.serve.Goals as goal
 
-pub returns-in-Ok : goal.returns-in-Ok
-returns-in-Ok g c = record {
-  serves = λ incoming. Formatted c.in-Ok.format (rw c.format_text.ensures at c.in-Ok.ensures.ok) (c.serve_files.ensures.serves incoming);
+-- ---- a format that was read: the site, or what is wrong with its files
+
+pub returns-in-Ok-Site : goal.returns-in-Ok-Site
+returns-in-Ok-Site g c = record {
+  serves = λ incoming.
+      Formatted c.in-Ok.format (rw c.format_text.ensures at c.in-Ok.ensures.ok)
+      (Served (record {
+        cfg = c.in-Ok-Site.site.cfg;
+        rules = c.in-Ok-Site.site.map;
+        site = rw c.in-Ok-Site.field-0-is at (c.in-Ok-Site.ensures.ok incoming);
+        works = c.serve_site.ensures;
+        written = refl;
+      }));
 }
+
+pub returns-in-Ok-Refused : goal.returns-in-Ok-Refused
+returns-in-Ok-Refused g c = record {
+  serves = λ incoming.
+      Formatted c.in-Ok.format (rw c.format_text.ensures at c.in-Ok.ensures.ok)
+      (Refused (record {
+        line = c.in-Ok-Refused.line;
+        refused = rw c.in-Ok-Refused.field-0-is at (c.in-Ok-Refused.ensures.ok incoming);
+        written = c.refuse.ensures;
+        world = refl;
+      }));
+}
+
+pub returns : goal.returns
+returns g c = record {
+  serves = λ incoming.
+      Formatted c.in-Ok.format (rw c.format_text.ensures at c.in-Ok.ensures.ok)
+      (unread _ _ _ _ _ _ _ _ _ c.in-Err.error _ c.in-Err.ensures.cause c.end_by.ensures refl refl);
+}
+
+-- ---- a format that wasn't
 
 pub returns-in-Err-BadFormat : goal.returns-in-Err-BadFormat
 returns-in-Err-BadFormat g c = record {
@@ -22,5 +54,5 @@ returns-in-Err-BadFormat g c = record {
 pub returns-in-Err-NoMemory : goal.returns-in-Err-NoMemory
 returns-in-Err-NoMemory g c = record { serves = λ incoming. NoFormat (record { status = refl; unread = refl; written = refl; world = refl }) }
 
-pub serve_files-requires-clause-threads : goal.serve_files-requires-clause-threads
-serve_files-requires-clause-threads g c = λ κs within. c.requires.threads
+pub serve_site-requires-clause-threads : goal.serve_site-requires-clause-threads
+serve_site-requires-clause-threads g c = λ κs within. c.requires.threads
