@@ -3,6 +3,7 @@ use denote.RattleType.{RattleType}
 use mir.Syntax.{given}
 use denote.Param.Send.{IsSend, IsSync, sendable, view_send}
 use denote.Param.SendFields.{as_row_send, as_row_sync, declared_send, declared_sync, owner_send, variants_send, variants_sync}
+use Rattle.std.proofs.Crossing.{Box-send}
 use Rattle.std.proofs.option.Option.TheSendSync.{the_field_send as Option-field}
 use Rattle.std.specs.contracts.snapshot.Snapshot.{the_row as snapshot_row, the_type as snapshot_type}
 use Rattle.conn_pool.specs.contracts.pooled.PooledReach.{the_row}
@@ -50,7 +51,7 @@ dial_send : (G : RattleType) → IsSend G → IsSend (dial_row G)
 dial_send G dial = view_send (dial_inside G) _ _ _ _ (declared_send (dial_type G) (search (sendable, as_row_send) depth 20, tt))
 
 link_send : (L : RattleType) → IsSend L → IsSend (link_row L)
-link_send L link = search (sendable, as_row_send, declared_send) depth 20
+link_send L link = search (sendable, as_row_send, declared_send, Box-send) depth 20
 
 -- the fields of the watched reach: the reach, its pools, its site, and its watch
 watched_fields : (p r : _) (G T R L B : RattleType) (d l m t s k : _) → IsSend G → IsSend T → IsSync R → IsSend L → IsSend (watched_inside p r G T R L B d l m t s k)

@@ -39,11 +39,11 @@ impl<D: Dial> Dial for AgedDial<D> {
 
     ghost faults = { λ d. D.faults d };
 
-    ghost gives = { λ before host port link after. D.gives before host port link.link after × (link.rounds ≡ 0) };
+    ghost gives = { λ before host port link after. D.gives before host port link.link.value after × (link.rounds ≡ 0) };
 
     fn dial(&mut self, alloc: Global, host: &Bytes, port: u16) -> Result<AgedLink<D::L>, IoError> {
         let link = self.dial.dial(alloc, host, port)?;
-        Ok(AgedLink { link, rounds: 0 })
+        Ok(AgedLink::new(alloc, link)?)
     }
 
     fn await_dial(&mut self, millis: u64, keepalive: bool) {

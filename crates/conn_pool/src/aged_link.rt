@@ -3,29 +3,43 @@ ghost use Rattle.std.specs.Prelude.{◌≡◌, ◌<◌, ◌≤◌, ℕ, false, l
 ghost use Rattle.jk_io.specs.Told.{appended, prepended, IsEmpty, HasCause};
 
 use crate::Aged;
-use jk_io::{Awaited, IoError, Link, Meanings, Sink, Source};
+use jk_io::{Awaited, IoError, Link, Meanings, NoMemory, Sink, Source};
+use std::alloc::Global;
 
 /// A link, and how many looks came since its last read or write.
 #[derive(Drop)]
 pub struct AgedLink<L> {
-    pub link: L,
+    /// It stays where it is while it goes from hand to hand.
+    pub link: Box<L>,
     pub rounds: u32,
+}
+
+impl<L: Drop> AgedLink<L> {
+    /// A link that was just used.
+    pub fn new(alloc: Global, link: L) -> Result<AgedLink<L>, NoMemory>
+        ensures { IfOk result (λ aged. (aged.link.value ≡ link) × (aged.rounds ≡ 0)) }
+    {
+        Ok(AgedLink {
+            link: Box::new(alloc, link)?,
+            rounds: 0,
+        })
+    }
 }
 
 impl<L: Link> Meanings for AgedLink<L> {
     type Beside = <L as Meanings>::Beside;
 
-    ghost incoming = { λ a. L.incoming a.link };
+    ghost incoming = { λ a. L.incoming a.link.value };
 
-    ghost received = { λ a. L.received a.link };
+    ghost received = { λ a. L.received a.link.value };
 
-    ghost sent = { λ a. L.sent a.link };
+    ghost sent = { λ a. L.sent a.link.value };
 
-    ghost beside = { λ a. L.beside a.link };
+    ghost beside = { λ a. L.beside a.link.value };
 
-    ghost faults = { λ a. L.faults a.link };
+    ghost faults = { λ a. L.faults a.link.value };
 
-    ghost is_open = { λ a. L.is_open a.link };
+    ghost is_open = { λ a. L.is_open a.link.value };
 }
 
 impl<L: Link> Source for AgedLink<L> {
@@ -35,15 +49,15 @@ impl<L: Link> Source for AgedLink<L> {
 
         // What each source says.
         ensures count { IfOk result (λ n. n ≤ length buf.new) }
-        ensures gave { IfOk result (λ n. L.incoming self.old.link ≡ prepended (take n buf.new) (L.incoming self.new.link)) }
-        ensures got { IfOk result (λ n. L.received self.new.link ≡ appended (L.received self.old.link) (take n buf.new)) }
-        ensures end { IfOk result (λ n. n ≡ 0 → IsEmpty (L.incoming self.new.link)) }
-        ensures shut { L.is_open self.old.link ≡ false → IsErrOf result IoError.Failed }
-        ensures kept_on_error { OnErr result ((L.incoming self.new.link ≡ L.incoming self.old.link)
-            × (L.received self.new.link ≡ L.received self.old.link)) }
-        ensures same { (L.sent self.new.link ≡ L.sent self.old.link) × (L.beside self.new.link ≡ L.beside self.old.link) }
-        ensures cause { HasCause (L.faults self.old.link) (L.faults self.new.link) result }
-        ensures steady { IsOk result → L.faults self.new.link ≡ L.faults self.old.link }
+        ensures gave { IfOk result (λ n. L.incoming self.old.link.value ≡ prepended (take n buf.new) (L.incoming self.new.link.value)) }
+        ensures got { IfOk result (λ n. L.received self.new.link.value ≡ appended (L.received self.old.link.value) (take n buf.new)) }
+        ensures end { IfOk result (λ n. n ≡ 0 → IsEmpty (L.incoming self.new.link.value)) }
+        ensures shut { L.is_open self.old.link.value ≡ false → IsErrOf result IoError.Failed }
+        ensures kept_on_error { OnErr result ((L.incoming self.new.link.value ≡ L.incoming self.old.link.value)
+            × (L.received self.new.link.value ≡ L.received self.old.link.value)) }
+        ensures same { (L.sent self.new.link.value ≡ L.sent self.old.link.value) × (L.beside self.new.link.value ≡ L.beside self.old.link.value) }
+        ensures cause { HasCause (L.faults self.old.link.value) (L.faults self.new.link.value) result }
+        ensures steady { IsOk result → L.faults self.new.link.value ≡ L.faults self.old.link.value }
     {
         self.rounds = 0;
         self.link.read(buf)
@@ -57,13 +71,13 @@ impl<L: Link> Sink for AgedLink<L> {
 
         // What each sink says.
         ensures count { IfOk result (λ n. (0 < n) × (n ≤ length piece.now)) }
-        ensures put { IfOk result (λ n. L.sent self.new.link ≡ appended (L.sent self.old.link) (take n piece.now)) }
-        ensures shut { L.is_open self.old.link ≡ false → IsErrOf result IoError.Failed }
-        ensures kept_on_error { OnErr result (L.sent self.new.link ≡ L.sent self.old.link) }
-        ensures same { (L.incoming self.new.link ≡ L.incoming self.old.link) × (L.received self.new.link ≡ L.received self.old.link)
-            × (L.beside self.new.link ≡ L.beside self.old.link) }
-        ensures cause { HasCause (L.faults self.old.link) (L.faults self.new.link) result }
-        ensures steady { IsOk result → L.faults self.new.link ≡ L.faults self.old.link }
+        ensures put { IfOk result (λ n. L.sent self.new.link.value ≡ appended (L.sent self.old.link.value) (take n piece.now)) }
+        ensures shut { L.is_open self.old.link.value ≡ false → IsErrOf result IoError.Failed }
+        ensures kept_on_error { OnErr result (L.sent self.new.link.value ≡ L.sent self.old.link.value) }
+        ensures same { (L.incoming self.new.link.value ≡ L.incoming self.old.link.value) × (L.received self.new.link.value ≡ L.received self.old.link.value)
+            × (L.beside self.new.link.value ≡ L.beside self.old.link.value) }
+        ensures cause { HasCause (L.faults self.old.link.value) (L.faults self.new.link.value) result }
+        ensures steady { IsOk result → L.faults self.new.link.value ≡ L.faults self.old.link.value }
     {
         self.rounds = 0;
         self.link.write(piece)
@@ -73,11 +87,11 @@ impl<L: Link> Sink for AgedLink<L> {
         ensures used { self.new.rounds ≡ 0 }
 
         // What each sink says.
-        ensures same_sent { L.sent self.new.link ≡ L.sent self.old.link }
-        ensures same { (L.incoming self.new.link ≡ L.incoming self.old.link) × (L.received self.new.link ≡ L.received self.old.link)
-            × (L.beside self.new.link ≡ L.beside self.old.link) }
-        ensures cause { HasCause (L.faults self.old.link) (L.faults self.new.link) result }
-        ensures steady { IsOk result → L.faults self.new.link ≡ L.faults self.old.link }
+        ensures same_sent { L.sent self.new.link.value ≡ L.sent self.old.link.value }
+        ensures same { (L.incoming self.new.link.value ≡ L.incoming self.old.link.value) × (L.received self.new.link.value ≡ L.received self.old.link.value)
+            × (L.beside self.new.link.value ≡ L.beside self.old.link.value) }
+        ensures cause { HasCause (L.faults self.old.link.value) (L.faults self.new.link.value) result }
+        ensures steady { IsOk result → L.faults self.new.link.value ≡ L.faults self.old.link.value }
     {
         self.rounds = 0;
         self.link.flush()
@@ -87,7 +101,7 @@ impl<L: Link> Sink for AgedLink<L> {
 impl<L: Link> Link for AgedLink<L> {
     ghost may_wait = { L.may_wait };
 
-    ghost found_quiet = { λ before after. L.found_quiet before.link after.link };
+    ghost found_quiet = { λ before after. L.found_quiet before.link.value after.link.value };
 
     fn waits(&mut self) -> bool {
         self.link.waits()

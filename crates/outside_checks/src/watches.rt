@@ -13,10 +13,9 @@ const MOST_LINKS: usize = 100;
 fn link_of(alloc: Global, text: &str) -> Result<AgedLink<MemLink>, NoMemory> {
     let (rounds, bytes) = text.split_once(' ').unwrap_or((text, ""));
     let link = MemLink::new(alloc, bytes_of(alloc, bytes)?, ListOf::new(alloc));
-    Ok(AgedLink {
-        link,
-        rounds: u32::try_from(number(rounds)).unwrap_or(0),
-    })
+    let mut link = AgedLink::new(alloc, link)?;
+    link.rounds = u32::try_from(number(rounds)).unwrap_or(0);
+    Ok(link)
 }
 
 fn links_of(alloc: Global, list: &str) -> Result<LinkList<AgedLink<MemLink>>, NoMemory> {
