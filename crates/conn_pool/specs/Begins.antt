@@ -1,5 +1,5 @@
 -- What a begin leaves of a tape and of the link of its talk.
-use Rattle.std.specs.Prelude.{◌≡◌, ℕ, List, [], ◌∷◌, Option, IfSome, IsSomeAnd, true, false}
+use Rattle.std.specs.Prelude.{◌≡◌, ℕ, List, [], ◌∷◌, Option, Result, IfErr, IfSome, IsSomeAnd, true, false}
 use Rattle.jk_io.specs.Told.{appended, IsEmpty}
 use Rattle.jk_io.specs.declared.failures.IoError.{IoError}
 use Rattle.jk_io.specs.declared.failures.IoError.TheVariants as Io
@@ -40,3 +40,7 @@ pub record IsQuiet (talks : Option (List Talk)) (now : TapeSight) : Type 0 where
 abbrev pub talks_refused : Talk → Option (List Talk) → IoError → Option (List Talk)
 talks_refused talk talks Io.Failed = appended talks (talk ∷ [])
 talks_refused talk talks Io.NoMemory = talks
+
+-- where a begin was refused its tape is quiet, and this talk is noted if it failed
+abbrev pub IsRefused : {A : Type 0} → Talk → Option (List Talk) → Result A IoError → TapeSight → Type 0
+IsRefused talk talks r now = IfErr r (λ e. IsQuiet (talks_refused talk talks e) now)

@@ -74,8 +74,8 @@ impl<L: Link> Sink for AgedLink<L> {
         ensures put { IfOk result (λ n. L.sent self.new.link.value ≡ appended (L.sent self.old.link.value) (take n piece.now)) }
         ensures shut { L.is_open self.old.link.value ≡ false → IsErrOf result IoError.Failed }
         ensures kept_on_error { OnErr result (L.sent self.new.link.value ≡ L.sent self.old.link.value) }
-        ensures same { (L.incoming self.new.link.value ≡ L.incoming self.old.link.value) × (L.received self.new.link.value ≡ L.received self.old.link.value)
-            × (L.beside self.new.link.value ≡ L.beside self.old.link.value) }
+        ensures same { (L.incoming self.new.link.value ≡ L.incoming self.old.link.value) × (L.received self.new.link.value ≡ L.received self.old.link.value) }
+        ensures beside { L.beside self.new.link.value ≡ L.beside self.old.link.value }
         ensures cause { HasCause (L.faults self.old.link.value) (L.faults self.new.link.value) result }
         ensures steady { IsOk result → L.faults self.new.link.value ≡ L.faults self.old.link.value }
     {
@@ -88,8 +88,8 @@ impl<L: Link> Sink for AgedLink<L> {
 
         // What each sink says.
         ensures same_sent { L.sent self.new.link.value ≡ L.sent self.old.link.value }
-        ensures same { (L.incoming self.new.link.value ≡ L.incoming self.old.link.value) × (L.received self.new.link.value ≡ L.received self.old.link.value)
-            × (L.beside self.new.link.value ≡ L.beside self.old.link.value) }
+        ensures same { (L.incoming self.new.link.value ≡ L.incoming self.old.link.value) × (L.received self.new.link.value ≡ L.received self.old.link.value) }
+        ensures beside { L.beside self.new.link.value ≡ L.beside self.old.link.value }
         ensures cause { HasCause (L.faults self.old.link.value) (L.faults self.new.link.value) result }
         ensures steady { IsOk result → L.faults self.new.link.value ≡ L.faults self.old.link.value }
     {

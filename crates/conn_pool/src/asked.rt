@@ -1,8 +1,8 @@
 //! What a talk is begun with, and its begin over a link that was dialled.
-ghost use Rattle.std.specs.Prelude.{◌≡◌, true, None, Ok, IsOk, IsErrOf, IfOk, IfErr, IsSomeAnd, OnOk, OnErr};
+ghost use Rattle.std.specs.Prelude.{◌≡◌, true, None, Ok, IsOk, IsErrOf, IfOk, IsSomeAnd, OnOk, OnErr};
 ghost use Rattle.jk_io.specs.Told.{IsEmpty, HasCause};
 ghost use Rattle.jk_io.specs.Talks.{failed_talk};
-ghost use Rattle.conn_pool.specs.Begins.{Begins, IsQuiet, sight_of, talks_refused};
+ghost use Rattle.conn_pool.specs.Begins.{Begins, IsRefused, sight_of};
 ghost use Rattle.conn_pool.specs.Idle.{HasMember};
 ghost use Rattle.conn_pool.specs.Reaches.{told_begun};
 
@@ -39,9 +39,8 @@ pub(crate) fn begin_dialled<L: Link + Drop, T: Tape, R: Wait>(
     ensures new_link { IfOk result (λ dialled. dialled ≡ true) }
     ensures began { let a = asked.now in OnOk result (Begins (told_begun a.lb a.member a.host.now a.port a.fresh true)
         (T.talks tape.old) (sight_of T.talks T.begun T.sent T.received tape.new) lent.new) }
-    ensures refused { let a = asked.now in
-        IfErr result (λ e. IsQuiet (talks_refused (failed_talk a.lb a.member a.host.now a.port a.fresh) (T.talks tape.old) e)
-        (sight_of T.talks T.begun T.sent T.received tape.new)) }
+    ensures refused { let a = asked.now in IsRefused (failed_talk a.lb a.member a.host.now a.port a.fresh) (T.talks tape.old) result
+        (sight_of T.talks T.begun T.sent T.received tape.new) }
     ensures running { OnOk result (T.is_running tape.new) }
     ensures idle { OnErr result ((lent.new ≡ None) × T.is_idle tape.new) }
     ensures given { OnOk result (IsSomeAnd lent.new (λ new. answer ≡ Ok new.given)) }
