@@ -4,6 +4,7 @@ pub mod ChainLemmas
 pub mod CheckLemmas
 pub mod DraftLemmas
 pub mod FirstsLemmas
+pub mod GivenLemmas
 pub mod LbLemmas
 pub mod MemberListLemmas
 pub mod OneConfig

@@ -6,7 +6,7 @@ ghost use Rattle.worker_props.specs.Listings.{as_listings};
 
 use crate::firsts::firsts;
 use jk_io::{ListOf, NoMemory};
-use site_config::{PropertyLine, is_list_key, push_words};
+use site_config::{PropertyLine, push_words};
 use std::alloc::Global;
 
 /// A name of a list, and the line on which it stands.
@@ -44,7 +44,7 @@ fn site_list<'t>(
 {
     let mut out = ListOf::new(alloc);
     for entry in entries {
-        if is_list_key(entry.key) {
+        if entry.is_list() {
             push_listings(alloc, &mut out, entry)?;
         }
     }

@@ -16,7 +16,7 @@ use crate::listing::{Listing, push_listings};
 use crate::name_table::NameTable;
 use crate::row::{Row, picked};
 use jk_io::{ListOf, NoMemory};
-use site_config::{Directive, PropertyLine, worker_part};
+use site_config::{Directive, PropertyLine};
 use std::alloc::Global;
 
 /// Lists of members, by the number of the worker whose lines they are.
@@ -28,8 +28,8 @@ fn lister(names: &NameTable<'_>, entry: &PropertyLine<'_>) -> Option<usize>
     ensures value { (name : List ℕ) (i : ℕ) → number_of name names.now ≡ Some i
         → gives name Directive.BalanceWorkers (as_property entry.now) ≡ is_number i result }
 {
-    let (name, text) = worker_part(entry.key)?;
-    if text == Directive::BalanceWorkers.name() {
+    let (name, _) = entry.worker()?;
+    if entry.gives(Directive::BalanceWorkers) {
         names.find(name)
     } else {
         None
@@ -104,7 +104,7 @@ pub(crate) fn member_lists<'t>(
 fn owner_of<'t>(entry: &PropertyLine<'t>) -> &'t [u8]
     ensures { result.now ≡ name_part (worker_part (as_property entry.now).key) }
 {
-    match worker_part(entry.key) {
+    match entry.worker() {
         Some((owner, _)) => owner,
         None => b"",
     }

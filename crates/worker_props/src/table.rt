@@ -9,7 +9,7 @@ ghost use Rattle.worker_props.specs.Rows.{HasOwn, AreRows, rows_after};
 use crate::name_table::NameTable;
 use crate::row::Row;
 use jk_io::NoMemory;
-use site_config::{PropertyLine, directive_of, worker_part};
+use site_config::PropertyLine;
 use std::alloc::Global;
 
 /// Adds the name, unless it is there.
@@ -26,7 +26,7 @@ fn add_name<'t>(names: &mut NameTable<'t>, name: &'t [u8]) -> Result<(), NoMemor
 fn add_worker<'t>(names: &mut NameTable<'t>, entry: &PropertyLine<'t>) -> Result<(), NoMemory>
     ensures { OnOk result (names.new ≡ names_with (worker_part entry.now.key.now) names.old) }
 {
-    match worker_part(entry.key) {
+    match entry.worker() {
         Some((name, _)) => add_name(names, name),
         None => Ok(()),
     }
@@ -51,13 +51,13 @@ fn put(names: &NameTable<'_>, rows: &mut Vec<Row>, entry: &PropertyLine<'_>, pla
     requires { vec_len rows.old ≡ length names.now }
     ensures { rows.new.items ≡ rows_after names.now (as_property entry.now) place rows.old.items }
 {
-    let Some((name, text)) = worker_part(entry.key) else {
+    let Some((name, given)) = entry.worker() else {
         return;
     };
     let Some(number) = names.find(name) else {
         return;
     };
-    let Some(directive) = directive_of(text) else {
+    let Some(directive) = given else {
         return;
     };
     let row = rows[number];

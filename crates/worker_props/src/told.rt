@@ -2,36 +2,43 @@
 ghost use Rattle.std.specs.Prelude.{◌≡◌, ◌≤◌, ◌+◌, ◌∷◌, ◌++◌, [], Err, true, length, vec_len, IfOk, IfErr, OnOk};
 ghost use Rattle.jk_io.specs.Decimals.{trimmed};
 ghost use Rattle.jk_io.specs.declared.whole_input.TheConstants.{MAX_INPUT_BYTES};
-ghost use Rattle.site_config.specs.Directives.{worker_part};
 ghost use Rattle.site_config.specs.Entries.{as_property, as_properties};
 ghost use Rattle.site_config.specs.Properties.{read_text, said};
 ghost use Rattle.site_config.specs.Refusals.{IsRefusal};
-ghost use Rattle.worker_props.specs.Site.{ignored_of};
-ghost use Rattle.worker_props.specs.Told.{AreTold, TakesLine, tells_part, telling};
+ghost use Rattle.worker_props.specs.Site.{ignored_of, is_built};
+ghost use Rattle.worker_props.specs.Told.{AreTold, TakesLine, tells, telling};
 
-use crate::whole::is_built;
 use jk_io::{NoMemory, trim};
-use site_config::{
-    IgnoredList, PropertyLine, PropsError, first_line, is_list_key, is_maintain_key, said,
-    without_mark, worker_part,
-};
+use site_config::{IgnoredList, PropertyLine, PropsError, first_line, said, without_mark};
 use std::alloc::Global;
 
 /// The lines that tell something, and beside them those that have no effect. A line that has none isn't kept as an entry,
-/// which takes five times the memory.
+/// which takes many times the memory.
 #[derive(Drop)]
 pub(crate) struct Told<'t> {
     pub(crate) entries: Vec<PropertyLine<'t>>,
     pub(crate) ignored: IgnoredList,
 }
 
-/// Whether a key tells something of workers.
-fn tells(key: &[u8]) -> bool
-    ensures { result ≡ tells_part (worker_part key.now) key.now }
+/// Whether a line tells something of workers.
+#[tactic(auto, using(crate::proofs::GivenLemmas::told_given))]
+fn tells(entry: &PropertyLine<'_>) -> bool
+    ensures { result ≡ tells (as_property entry.now) }
 {
-    match worker_part(key) {
-        None => is_list_key(key) || is_maintain_key(key),
+    match entry.worker() {
+        None => entry.is_list() || entry.is_maintain(),
         Some(_) => true,
+    }
+}
+
+/// Whether a line has an effect.
+#[tactic(auto, using(crate::proofs::GivenLemmas::built_given))]
+fn is_built(entry: &PropertyLine<'_>) -> bool
+    ensures { result ≡ is_built entry.now.key.now }
+{
+    match entry.worker() {
+        None => entry.is_list() || entry.is_maintain(),
+        Some((_, directive)) => directive.is_some(),
     }
 }
 
@@ -44,7 +51,7 @@ fn put_telling<'t>(
         ≡ as_properties entries.old.items ++ telling (as_property entry.now ∷ [])) }
     ensures few { OnOk result (vec_len entries.new ≤ vec_len entries.old + 1) }
 {
-    if tells(entry.key) {
+    if tells(entry) {
         entries.push(*entry)?;
     }
     Ok(())
@@ -54,7 +61,7 @@ fn put_telling<'t>(
 fn put_ignored(ignored: &mut IgnoredList, entry: &PropertyLine<'_>) -> Result<(), NoMemory>
     ensures { OnOk result (ignored.new ≡ ignored.old ++ ignored_of (as_property entry.now ∷ [])) }
 {
-    if is_built(entry.key) {
+    if is_built(entry) {
         Ok(())
     } else {
         ignored.push(entry.line, entry.key)

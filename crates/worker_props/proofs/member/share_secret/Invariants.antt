@@ -1,4 +1,4 @@
-use Rattle.std.proofs.Common.{◌≡◌, List, ◌++◌, Option, Bor, map, take, drop}
+use Rattle.std.proofs.Common.{◌≡◌, ◌++◌, map, take, drop}
 use Rattle.std.specs.Option.{option_map}
 use Rattle.worker_props.specs.Settings.{shared}
 use Rattle.worker_props.proofs.member.share_secret.Given as goal
