@@ -1,12 +1,10 @@
 -- Members made of rows, one after another.
-use Rattle.std.proofs.Common.{◌≡◌, ℕ, ◌+◌, ◌<◌, ◌≤◌, Bool, true, false, List, [], ◌∷◌, ◌++◌, length, take, get_or, Option, Some, None, refl, sym, ◌∙◌, ap, subst, cond, suc, zero, arith, eqb, nat_lt, nat_le, ◌&&◌, not}
+use Rattle.std.proofs.Common.{◌≡◌, ℕ, ◌+◌, ◌<◌, Bool, true, false, List, [], ◌∷◌, ◌++◌, length, take, get_or, Option, Some, None, refl, sym, ◌∙◌, ap, subst, cond, suc, zero, arith, eqb, nat_lt, ◌&&◌, not}
 use Rattle.std.proofs.lemmas.Bool.{and_parts, false≢true}
 use Rattle.std.proofs.lemmas.List.{take_more, map-append, length-take, length-map}
 use Rattle.std.proofs.lemmas.Option.{same_Some, none-some}
-use Rattle.std.specs.Option.{unwrap_or}
 use Rattle.std.specs.List.{slice_get}
 use Rattle.std.specs.Str.{bytes_eq}
-use Rattle.jk_io.specs.Decimals.{decimal_of}
 use Rattle.jk_model.specs.declared.member.MemberConfig.{MemberConfig}
 use Rattle.jk_model.specs.Ranges.{IsInRange, AreInRange, redirects_within}
 use Rattle.site_config.specs.declared.property.Property.{Property}
@@ -20,9 +18,9 @@ use Rattle.worker_props.specs.Given.{in_force}
 use Rattle.worker_props.specs.Lists.{Listing}
 use Rattle.worker_props.specs.Listings.{as_listing, as_listings}
 use Rattle.worker_props.specs.Rows.{HasForce, property_at}
-use Rattle.worker_props.specs.Settings.{IsEndpoint, IsMember, number_or, other_at, redirect_in, text_in, text_or}
+use Rattle.worker_props.specs.Settings.{IsEndpoint, IsMember, other_at, redirect_in, text_in, text_or}
+use Rattle.worker_props.proofs.SettingLemmas.{number_or-high, number_or-low}
 use Rattle.worker_props.specs.Site.{AreMembers, routes_of}
-use Rattle.site_config.specs.Values.{within}
 
 -- the listings so far, after one more
 pub listings_more : (ls : List declared.Listing) (i : ℕ) (d : declared.Listing) → i < length ls → as_listings (take (i + 1) ls) ≡ as_listings (take i ls) ++ as_listing (get_or ls i d) ∷ []
@@ -107,31 +105,6 @@ built_lengths ps routes i (l ∷ ls) (row ∷ rows) (m ∷ ms) (e ∷ es) h =
     (ap suc rest.0, ap suc rest.1)
 built_lengths ps routes i ls rows ms es h = absurd h
 
--- a number is within its range
-within_low : (low high default : ℕ) (o : Option ℕ) → low ≤ default → low ≤ unwrap_or (within low high o) default
-within_low low high default None h = h
-within_low low high default (Some n) h = by_test (nat_le low n && nat_le n high) refl
-  where
-    by_test : (t : Bool) → (nat_le low n && nat_le n high) ≡ t → low ≤ unwrap_or (cond t (Some n) None) default
-    by_test true e = let both = and_parts (nat_le low n) (nat_le n high) e in grind (arith, both.0)
-    by_test false e = h
-
-within_high : (low high default : ℕ) (o : Option ℕ) → default ≤ high → unwrap_or (within low high o) default ≤ high
-within_high low high default None h = h
-within_high low high default (Some n) h = by_test (nat_le low n && nat_le n high) refl
-  where
-    by_test : (t : Bool) → (nat_le low n && nat_le n high) ≡ t → unwrap_or (cond t (Some n) None) default ≤ high
-    by_test true e = let both = and_parts (nat_le low n) (nat_le n high) e in grind (arith, both.1)
-    by_test false e = h
-
-number_or-low : (low high default : ℕ) (p : Option Property) → low ≤ default → low ≤ number_or low high default p
-number_or-low low high default None h = h
-number_or-low low high default (Some p) h = within_low low high default (decimal_of p.value) h
-
-number_or-high : (low high default : ℕ) (p : Option Property) → default ≤ high → number_or low high default p ≤ high
-number_or-high low high default None h = h
-number_or-high low high default (Some p) h = within_high low high default (decimal_of p.value) h
-
 not_true : (b : Bool) → not b ≡ true → b ≡ false
 not_true true h = absurd (false≢true h)
 not_true false h = refl
@@ -159,11 +132,11 @@ redirect_within n i routes (Some text) (Some t) h e =
 
 member_range : (n i : ℕ) (v : Directive → Option Property) (name : List ℕ) (routes : List (List ℕ)) (m : MemberConfig) → length routes ≡ n → IsMember v name routes i m → IsInRange n i m
 member_range n i v name routes m h is = record {
-  factor_above = rw is.factor (number_or-low 1 65535 1 (v directive.Factor) (omega arith));
-  factor_below = rw is.factor (number_or-high 1 65535 1 (v directive.Factor) (omega arith));
-  distance_below = rw is.distance (number_or-high 0 65535 0 (v directive.Distance) (omega arith));
-  pool_above = rw is.pool (number_or-low 1 1024 64 (v directive.PoolSize) (omega arith));
-  pool_below = rw is.pool (number_or-high 1 1024 64 (v directive.PoolSize) (omega arith));
+  factor_above = rw is.factor (number_or-low v directive.Factor 1 (omega arith));
+  factor_below = rw is.factor (number_or-high v directive.Factor 1 (omega arith));
+  distance_below = rw is.distance (number_or-high v directive.Distance 0 (omega arith));
+  pool_above = rw is.pool (number_or-low v directive.PoolSize 64 (omega arith));
+  pool_below = rw is.pool (number_or-high v directive.PoolSize 64 (omega arith));
   redirect = redirect_within n i routes (text_in (v directive.Redirect)) m.redirect h (sym is.redirect);
 }
 

@@ -25,7 +25,7 @@ use Rattle.worker_props.proofs.WorkerLemmas.{wider_refused}
 
 -- the book of these values
 pub is_book : (v : Directive → Option Property) (maintain : ℕ) (ms : List MemberConfig) (m : Method) (sticky force : Bool) (recover : ℕ) (r : Result LbConfig ConfigError)
-    → m ≡ method_in (v directive.Method) → sticky ≡ truth_or true (v directive.Sticky) → force ≡ truth_or false (v directive.Force) → recover ≡ number_or 1 86400 60 (v directive.RecoverTime)
+    → m ≡ method_in (v directive.Method) → sticky ≡ truth_or v directive.Sticky true → force ≡ truth_or v directive.Force false → recover ≡ number_or v directive.RecoverTime 60
     → IfOk r (λ b. (b.method ≡ m) × (b.sticky ≡ sticky) × (b.force ≡ force) × (b.direct ≡ false)) → IfOk r (λ b. (b.maintain ≡ maintain) × (b.recover ≡ recover)) → IfOk r (λ b. b.members ≡ ms)
     → IfOk r (IsBook v maintain ms)
 is_book v maintain ms m sticky force recover (Ok b) em es ef er flags times same = record {

@@ -11,6 +11,7 @@ pub mod OneConfig
 pub mod OneRefusal
 pub mod RowLemmas
 pub mod SameLemmas
+pub mod SettingLemmas
 pub mod ShareLemmas
 pub mod TableLemmas
 pub mod ToldLemmas

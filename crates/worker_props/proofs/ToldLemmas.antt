@@ -22,8 +22,7 @@ use Rattle.worker_props.specs.declared.draft.Draft.{Draft}
 use Rattle.worker_props.specs.declared.told.Told.{Told}
 use Rattle.worker_props.specs.Given.{concerns, gives, last_of, names_both, names_worker, or_else}
 use Rattle.worker_props.specs.Lists.{Listing, firsts, is_list_line, joined, listings_of, site_list}
-use Rattle.worker_props.specs.Settings.{number_or}
-use Rattle.worker_props.specs.Site.{Builds, IsConfig, IsRefused, Stops, draft_of, ignored_of, is_maintain_line, maintain_of, no_workers}
+use Rattle.worker_props.specs.Site.{Builds, IsConfig, IsRefused, Stops, draft_of, ignored_of, is_maintain_line, maintain_in, maintain_of, no_workers}
 use Rattle.worker_props.specs.Told.{AreTold, IsTelling, TakesLine, tells, tells_part, telling}
 use Rattle.worker_props.proofs.SameLemmas.{SaySame, builds_same, stops_same}
 
@@ -99,7 +98,7 @@ say_same ps = record {
 }
 
 pub maintain_same : (ps : List Property) → maintain_of (telling ps) ≡ maintain_of ps
-maintain_same ps = ap (number_or 1 86400 60) (last_told is_maintain_line maintain_told ps)
+maintain_same ps = ap maintain_in (last_told is_maintain_line maintain_told ps)
 
 listed_same : (ps : List Property) → firsts (site_list (telling ps)) ≡ firsts (site_list ps)
 listed_same ps = ap firsts (joined_told is_list_line list_told ps)

@@ -1,6 +1,6 @@
 -- What an lb worker makes of its members, without a look at the lines that name them.
 use Rattle.std.specs.Prelude.{◌≡◌, ℕ, ◌≤◌, ◌<◌, ◌^◌, true, false, List, Option, ◌⊎◌, length, codes, map}
-use Rattle.jk_model.specs.Limits.{most_balancers, most_members, most_seconds}
+use Rattle.jk_model.specs.Limits.{most_balancers, most_members}
 use Rattle.jk_model.specs.Multiple.{multiple_of}
 use Rattle.jk_model.specs.Ranges.{AreInRange, factors_in}
 use Rattle.jk_model.specs.declared.config.LbConfig.{LbConfig}
@@ -32,11 +32,11 @@ RefusesWide ms line r = AreTooWide ms × (r ≡ refusal line reason.TooWide)
 -- the book of an lb worker, by the directives in force
 pub record IsBook (v : Directive → Option Property) (maintain : ℕ) (ms : List MemberConfig) (b : LbConfig) : Type 0 where
   pub method : b.method ≡ method_in (v directive.Method)
-  pub sticky : b.sticky ≡ truth_or true (v directive.Sticky)
-  pub force : b.force ≡ truth_or false (v directive.Force)
+  pub sticky : b.sticky ≡ truth_or v directive.Sticky true
+  pub force : b.force ≡ truth_or v directive.Force false
   pub indirect : b.direct ≡ false
   pub period : b.maintain ≡ maintain
-  pub recover : b.recover ≡ number_or 1 most_seconds 60 (v directive.RecoverTime)
+  pub recover : b.recover ≡ number_or v directive.RecoverTime 60
   pub members : b.members ≡ ms
 
 -- a balancer of these parts

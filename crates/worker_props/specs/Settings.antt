@@ -15,7 +15,10 @@ use Rattle.site_config.specs.declared.directive.Directive.TheVariants as directi
 use Rattle.site_config.specs.declared.endpoint.Endpoint.{Endpoint}
 use Rattle.site_config.specs.declared.limits.MemberLimits.{MemberLimits}
 use Rattle.worker_props.specs.Given.{or_else}
-use Rattle.site_config.specs.Values.{number_in, truth_of, kind_of, activation_of, method_of, pings, statuses_of}
+use Rattle.site_config.specs.declared.value.Value.{Value}
+use Rattle.site_config.specs.declared.value.Value.TheVariants as value
+use Rattle.site_config.specs.Meanings.{says}
+use Rattle.site_config.specs.Values.{pings, statuses_of}
 
 -- the value of a directive in force
 abbrev pub text_in : Option Property → Option (List ℕ)
@@ -32,18 +35,44 @@ filled default text = if nat_lt 0 (length text) then text else default
 abbrev pub filled_or : List ℕ → Option Property → List ℕ
 filled_or default p = filled default (text_or default p)
 
-abbrev pub number_or : ℕ → ℕ → ℕ → Option Property → ℕ
-number_or low high default p = unwrap_or (option_and_then (number_in low high) (text_in p)) default
+-- what a line in force says of its directive
+abbrev pub said_in : Directive → Option Property → Option Value
+said_in d None = None
+said_in d (Some p) = says d p
 
-abbrev pub truth_or : Bool → Option Property → Bool
-truth_or default p = unwrap_or (option_and_then truth_of (text_in p)) default
+-- the number, the truth value, the type, the activation and the method that a value is, if it is one
+abbrev pub as_number : Option Value → Option ℕ
+as_number (Some (value.Number n)) = Some n
+as_number v = None
 
--- a number that is given, with no default
-abbrev pub limit_in : ℕ → Option Property → Option ℕ
-limit_in most p = option_and_then (number_in 0 most) (text_in p)
+abbrev pub as_truth : Option Value → Option Bool
+as_truth (Some (value.Truth t)) = Some t
+as_truth v = None
 
-abbrev pub truth_in : Option Property → Option Bool
-truth_in p = option_and_then truth_of (text_in p)
+abbrev pub as_kind : Option Value → Option WorkerKind
+as_kind (Some (value.Kind k)) = Some k
+as_kind v = None
+
+abbrev pub as_activation : Option Value → Option Activation
+as_activation (Some (value.Activation a)) = Some a
+as_activation v = None
+
+abbrev pub as_method : Option Value → Option Method
+as_method (Some (value.Method m)) = Some m
+as_method v = None
+
+-- a number and a truth value that a directive is given, by the lines in force
+abbrev pub number_in : (Directive → Option Property) → Directive → Option ℕ
+number_in v d = as_number (said_in d (v d))
+
+abbrev pub number_or : (Directive → Option Property) → Directive → (default : ℕ) → ℕ
+number_or v d default = unwrap_or (number_in v d) default
+
+abbrev pub truth_in : (Directive → Option Property) → Directive → Option Bool
+truth_in v d = as_truth (said_in d (v d))
+
+abbrev pub truth_or : (Directive → Option Property) → Directive → (default : Bool) → Bool
+truth_or v d default = unwrap_or (truth_in v d) default
 
 -- whether a limit is given that isn't 0
 abbrev pub is_limited : Option ℕ → Bool
@@ -51,39 +80,39 @@ is_limited None = false
 is_limited (Some n) = nat_lt 0 n
 
 abbrev pub kind_in : Option Property → WorkerKind
-kind_in p = unwrap_or (option_and_then kind_of (text_in p)) kind.Ajp13
+kind_in p = unwrap_or (as_kind (said_in directive.Kind p)) kind.Ajp13
 
 abbrev pub activation_in : Option Property → Activation
-activation_in p = unwrap_or (option_and_then activation_of (text_in p)) activation.Active
+activation_in p = unwrap_or (as_activation (said_in directive.Activation p)) activation.Active
 
 abbrev pub method_in : Option Property → Method
-method_in p = unwrap_or (option_and_then method_of (text_in p)) method.Request
+method_in p = unwrap_or (as_method (said_in directive.Method p)) method.Request
 
 abbrev pub statuses_in : Option Property → List (ℕ × Bool)
 statuses_in p = unwrap_or (option_and_then statuses_of (text_in p)) []
 
 -- the time limits that are set, each in its directive's unit: at most a day
 pub record AreLimits (v : Directive → Option Property) (l : MemberLimits) : Type 0 where
-  pub dial : l.socket_connect_timeout ≡ limit_in 86400000 (v directive.DialTimeout)
-  pub first_pong : l.connect_timeout ≡ limit_in 86400000 (v directive.ConnectTimeout)
-  pub each_pong : l.prepost_timeout ≡ limit_in 86400000 (v directive.PrepostTimeout)
-  pub ping : l.ping_timeout ≡ limit_in 86400000 (v directive.PingTimeout)
-  pub wait : l.socket_timeout ≡ limit_in 86400 (v directive.SocketTimeout)
-  pub reply : l.reply_timeout ≡ limit_in 86400000 (v directive.ReplyTimeout)
-  pub keepalive : l.socket_keepalive ≡ truth_in (v directive.Keepalive)
-  pub pool : l.connection_pool_timeout ≡ limit_in 86400 (v directive.PoolTimeout)
-  pub interval : l.connection_ping_interval ≡ limit_in 86400 (v directive.PingInterval)
+  pub dial : l.socket_connect_timeout ≡ number_in v directive.DialTimeout
+  pub first_pong : l.connect_timeout ≡ number_in v directive.ConnectTimeout
+  pub each_pong : l.prepost_timeout ≡ number_in v directive.PrepostTimeout
+  pub ping : l.ping_timeout ≡ number_in v directive.PingTimeout
+  pub wait : l.socket_timeout ≡ number_in v directive.SocketTimeout
+  pub reply : l.reply_timeout ≡ number_in v directive.ReplyTimeout
+  pub keepalive : l.socket_keepalive ≡ truth_in v directive.Keepalive
+  pub pool : l.connection_pool_timeout ≡ number_in v directive.PoolTimeout
+  pub interval : l.connection_ping_interval ≡ number_in v directive.PingInterval
 
 -- how the member is reached and used, by the directives in force; a limit of the first or of each CPong asks for it too
 pub record IsEndpoint (v : Directive → Option Property) (e : Endpoint) : Type 0 where
   pub host : e.host ≡ text_or (codes "localhost") (v directive.Host)
-  pub port : e.port ≡ number_or 1 65535 8009 (v directive.Port)
-  pub retries : e.retries ≡ number_or 1 10 2 (v directive.Retries)
-  pub packet : e.packet ≡ number_or 8192 65536 8192 (v directive.PacketSize)
+  pub port : e.port ≡ number_or v directive.Port 8009
+  pub retries : e.retries ≡ number_or v directive.Retries 2
+  pub packet : e.packet ≡ number_or v directive.PacketSize 8192
   pub secret : e.secret ≡ text_in (v directive.Secret)
-  pub recovery : e.recovery ≡ number_or 0 31 0 (v directive.RecoveryOptions)
-  pub ping_new : e.ping_new ≡ (pings 99 (text_or [] (v directive.PingMode)) || is_limited (limit_in 86400000 (v directive.ConnectTimeout)))
-  pub ping_each : e.ping_each ≡ (pings 112 (text_or [] (v directive.PingMode)) || is_limited (limit_in 86400000 (v directive.PrepostTimeout)))
+  pub recovery : e.recovery ≡ number_or v directive.RecoveryOptions 0
+  pub ping_new : e.ping_new ≡ (pings 99 (text_or [] (v directive.PingMode)) || is_limited (number_in v directive.ConnectTimeout))
+  pub ping_each : e.ping_each ≡ (pings 112 (text_or [] (v directive.PingMode)) || is_limited (number_in v directive.PrepostTimeout))
   pub ping_idle : e.ping_idle ≡ pings 105 (text_or [] (v directive.PingMode))
   pub fail_on : e.fail_on ≡ statuses_in (v directive.FailOnStatus)
   pub limits : AreLimits v e.limits
@@ -110,8 +139,8 @@ redirect_in routes i (Some text) = other_at i text 0 routes
 pub record IsMember (v : Directive → Option Property) (name : List ℕ) (routes : List (List ℕ)) (i : ℕ) (m : MemberConfig) : Type 0 where
   pub named : m.name ≡ name
   pub route : m.route ≡ text_or name (v directive.Route)
-  pub factor : m.factor ≡ number_or 1 65535 1 (v directive.Factor)
-  pub distance : m.distance ≡ number_or 0 65535 0 (v directive.Distance)
+  pub factor : m.factor ≡ number_or v directive.Factor 1
+  pub distance : m.distance ≡ number_or v directive.Distance 0
   pub activation : m.activation ≡ activation_in (v directive.Activation)
   pub redirect : m.redirect ≡ redirect_in routes i (text_in (v directive.Redirect))
-  pub pool : m.pool ≡ number_or 1 1024 64 (v directive.PoolSize)
+  pub pool : m.pool ≡ number_or v directive.PoolSize 64

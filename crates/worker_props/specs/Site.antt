@@ -1,8 +1,8 @@
 -- The configuration of a workers.properties, or its first refusal.
-use Rattle.std.specs.Prelude.{◌≡◌, ℕ, ◌+◌, ◌<◌, ◌≤◌, ◌^◌, Bool, true, false, List, [], ◌∷◌, ◌++◌, Option, Some, None, Ok, Err, ◌⊎◌, ◌≢◌, if◌then◌else◌, not, length, map, filter, codes}
-use Rattle.std.specs.Option.{is_some}
+use Rattle.std.specs.Prelude.{◌≡◌, ℕ, ◌+◌, ◌<◌, ◌≤◌, ◌^◌, Bool, true, false, List, [], ◌∷◌, ◌++◌, Option, Some, None, Ok, Err, ◌⊎◌, ◌≢◌, if◌then◌else◌, not, length, map, filter, codes, unwrap_or}
+use Rattle.std.specs.Option.{is_some, option_and_then}
 use Rattle.std.specs.Str.{bytes_eq}
-use Rattle.jk_model.specs.Limits.{most_balancers, most_members, most_seconds}
+use Rattle.jk_model.specs.Limits.{most_balancers, most_members}
 use Rattle.jk_model.specs.Multiple.{multiple_of}
 use Rattle.jk_model.specs.Ranges.{factors_in}
 use Rattle.jk_model.specs.declared.member.MemberConfig.{MemberConfig}
@@ -21,6 +21,7 @@ use Rattle.worker_props.specs.declared.draft.Draft.{Draft}
 use Rattle.site_config.specs.declared.config.Named.TheVariants as named
 use Rattle.site_config.specs.Refusals.{LineRefusal, refusal}
 use Rattle.site_config.specs.Directives.{directive_of, worker_part, list_key, maintain_key}
+use Rattle.site_config.specs.Meanings.{period_of}
 use Rattle.site_config.specs.Properties.{read_text}
 use Rattle.worker_props.specs.Given.{IsChain, in_force, is_given, last_of, BreaksAt}
 use Rattle.worker_props.specs.Lists.{Listing, firsts, site_list, members_in}
@@ -41,11 +42,11 @@ routes_of ms = map (λ m. m.route) ms
 pub record IsLb (ps : List Property) (v : Directive → Option Property) (maintain : ℕ) (name : List ℕ) (ls : List Listing) (lb : Lb) : Type 0 where
   pub named : lb.name ≡ name
   pub method : lb.book.method ≡ method_in (v directive.Method)
-  pub sticky : lb.book.sticky ≡ truth_or true (v directive.Sticky)
-  pub force : lb.book.force ≡ truth_or false (v directive.Force)
+  pub sticky : lb.book.sticky ≡ truth_or v directive.Sticky true
+  pub force : lb.book.force ≡ truth_or v directive.Force false
   pub indirect : lb.book.direct ≡ false
   pub period : lb.book.maintain ≡ maintain
-  pub recover : lb.book.recover ≡ number_or 1 most_seconds 60 (v directive.RecoverTime)
+  pub recover : lb.book.recover ≡ number_or v directive.RecoverTime 60
   pub own : List Endpoint
   pub members : AreMembers ps (routes_of lb.book.members) 0 ls lb.book.members own
   pub ends : lb.ends ≡ map (shared (text_in (v directive.Secret))) own
@@ -145,7 +146,7 @@ with_status d name s = record { lbs = d.lbs; statuses = d.statuses ++ s ∷ []; 
 -- what an accepted worker of this type adds
 abbrev pub AddsKind : List Property → ℕ → Listing → (Directive → Option Property) → WorkerKind → Draft → Draft → Type 0
 AddsKind ps maintain l v kind.Status old new =
-    (s : Status) × (s.name ≡ l.name) × (s.read_only ≡ truth_or false (v directive.ReadOnly)) × (s.closed ≡ is_closed v) × (new ≡ with_status old l.name s)
+    (s : Status) × (s.name ≡ l.name) × (s.read_only ≡ truth_or v directive.ReadOnly false) × (s.closed ≡ is_closed v) × (new ≡ with_status old l.name s)
 AddsKind ps maintain l v kind.Ajp13 old new =
     (length old.lbs < most_balancers) × (lb : Lb) × IsDirect ps maintain l lb × (new ≡ with_lb old l.name lb)
 AddsKind ps maintain l v kind.Lb old new =
@@ -172,8 +173,11 @@ Stops ps maintain (l ∷ ls) old r = Refuses ps (length old.lbs) l r ⊎ ((mid :
 abbrev pub is_maintain_line : Property → Bool
 is_maintain_line p = bytes_eq p.key maintain_key
 
+abbrev pub maintain_in : Option Property → ℕ
+maintain_in p = unwrap_or (option_and_then period_of (text_in p)) 60
+
 abbrev pub maintain_of : List Property → ℕ
-maintain_of ps = number_or 1 most_seconds 60 (last_of is_maintain_line ps)
+maintain_of ps = maintain_in (last_of is_maintain_line ps)
 
 -- whether a key has an effect
 abbrev pub is_built_part : Option (List ℕ × List ℕ) → List ℕ → Bool

@@ -123,7 +123,7 @@ fn book_of(given: &Given<'_, '_>, row: &Row, members: MemberList) -> Result<LbCo
     ensures book { IfOk result (IsBook (property_at (lines_in given.now) row.now) given.now.maintain members) }
     ensures wide { OnErr result (AreTooWide members) }
 {
-    let recover = number_or(given.entries, row, Directive::RecoverTime, 1, 86400, 60);
+    let recover = number_or(given.entries, row, Directive::RecoverTime, 60);
     LbConfig::new(
         method(given.entries, row),
         truth_or(given.entries, row, Directive::Sticky, true),

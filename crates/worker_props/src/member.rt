@@ -3,7 +3,7 @@ ghost use Rattle.std.specs.Prelude.{◌≡◌, ◌<◌, ◌+◌, ◌||◌, map, 
 ghost use Rattle.std.specs.Option.{option_map};
 ghost use Rattle.site_config.specs.Entries.{as_properties};
 ghost use Rattle.worker_props.specs.Rows.{property_at};
-ghost use Rattle.worker_props.specs.Settings.{IsEndpoint, IsMember, is_limited, limit_in, redirect_in, other_at, shared, statuses_in, text_in};
+ghost use Rattle.worker_props.specs.Settings.{IsEndpoint, IsMember, is_limited, redirect_in, other_at, shared, statuses_in, text_in};
 ghost use Rattle.jk_model.specs.declared.config.TheConstants.{MAX_MEMBERS};
 
 use crate::limits::limits_of;
@@ -51,10 +51,10 @@ pub(crate) fn endpoint_of<'t>(
     let ping = text_or(entries, row, Directive::PingMode, no_pings);
     let limits = limits_of(entries, row);
     Ok(Endpoint {
-        port: number_or(entries, row, Directive::Port, 1, 65535, 8009) as u16,
-        retries: number_or(entries, row, Directive::Retries, 1, 10, 2) as u32,
-        packet: number_or(entries, row, Directive::PacketSize, 8192, 65536, 8192) as u32,
-        recovery: number_or(entries, row, Directive::RecoveryOptions, 0, 31, 0) as u8,
+        port: number_or(entries, row, Directive::Port, 8009) as u16,
+        retries: number_or(entries, row, Directive::Retries, 2) as u32,
+        packet: number_or(entries, row, Directive::PacketSize, 8192) as u32,
+        recovery: number_or(entries, row, Directive::RecoveryOptions, 0) as u8,
         ping_new: pings(b'c', ping) || is_limited(limits.connect_timeout),
         ping_each: pings(b'p', ping) || is_limited(limits.prepost_timeout),
         ping_idle: pings(b'i', ping),
@@ -138,11 +138,11 @@ pub(crate) fn member_of<'t>(
     let route = text_or(entries, row, Directive::Route, name);
     let redirected = text(entries, row, Directive::Redirect);
     Ok(MemberConfig {
-        factor: number_or(entries, row, Directive::Factor, 1, 65535, 1) as u32,
-        distance: number_or(entries, row, Directive::Distance, 0, 65535, 0) as u32,
+        factor: number_or(entries, row, Directive::Factor, 1) as u32,
+        distance: number_or(entries, row, Directive::Distance, 0) as u32,
         activation: activation(entries, row),
         redirect: redirect(index, redirected, routes),
-        pool: number_or(entries, row, Directive::PoolSize, 1, 1024, 64) as u32,
+        pool: number_or(entries, row, Directive::PoolSize, 64) as u32,
         name: Bytes::from_slice(alloc, name)?,
         route: Bytes::from_slice(alloc, route)?,
     })

@@ -3,14 +3,13 @@ ghost use Rattle.std.specs.Prelude.{◌≡◌, ◌≤◌, ◌<◌, length, optio
 ghost use Rattle.std.specs.Option.{option_map};
 ghost use Rattle.site_config.specs.Entries.{as_properties};
 ghost use Rattle.worker_props.specs.Rows.{property_at};
-ghost use Rattle.worker_props.specs.Settings.{activation_in, filled, filled_or, is_closed, is_limited, kind_in, limit_in, method_in, number_or, text_in, text_or, truth_in, truth_or};
+ghost use Rattle.worker_props.specs.Settings.{activation_in, filled, filled_or, is_closed, is_limited, kind_in, method_in, number_in, number_or, said_in, text_in, text_or, truth_in, truth_or};
 ghost use Rattle.site_config.specs.Bounds.{is_at_most};
+ghost use Rattle.site_config.specs.Meanings.{least_of, most_of};
 
 use crate::row::{Row, picked};
 use jk_model::{Activation, Method};
-use site_config::{
-    Directive, PropertyLine, WorkerKind, activation_of, kind_of, method_of, number_in, truth_of,
-};
+use site_config::{Directive, PropertyLine, Value, WorkerKind};
 
 /// The value of a directive in force.
 pub(crate) fn text<'t>(
@@ -55,26 +54,52 @@ pub(crate) fn filled_or<'t>(
     if text.is_empty() { default } else { text }
 }
 
+/// What the line that is in force for a directive says of it.
+fn said(entries: &[PropertyLine<'_>], row: &Row, directive: Directive) -> Option<Value>
+    ensures { result ≡ said_in directive (property_at (as_properties entries.now) row.now directive) }
+{
+    let entry = picked(entries, row, directive)?;
+    entry.says(directive)
+}
+
+/// A number that is given; no line, no number.
+#[tactic(auto, using(crate::proofs::SettingLemmas::said_number))]
+pub(crate) fn number(entries: &[PropertyLine<'_>], row: &Row, directive: Directive) -> Option<u64>
+    ensures value { result ≡ number_in (property_at (as_properties entries.now) row.now) directive }
+    ensures below { is_at_most (most_of directive) result ≡ true }
+{
+    match said(entries, row, directive) {
+        Some(Value::Number(number)) => Some(number),
+        _ => None,
+    }
+}
+
+#[tactic(auto, using(crate::proofs::SettingLemmas::given_low, crate::proofs::SettingLemmas::given_high))]
 pub(crate) fn number_or(
     entries: &[PropertyLine<'_>],
     row: &Row,
     directive: Directive,
-    low: u64,
-    high: u64,
     default: u64,
 ) -> u64
-    requires above { low ≤ default }
-    requires below { default ≤ high }
-    ensures value { result ≡ number_or low high default (property_at (as_properties entries.now) row.now directive) }
-    ensures low { low ≤ result }
-    ensures high { result ≤ high }
+    requires above { least_of directive ≤ default }
+    requires below { default ≤ most_of directive }
+    ensures value { result ≡ number_or (property_at (as_properties entries.now) row.now) directive default }
+    ensures low { least_of directive ≤ result }
+    ensures high { result ≤ most_of directive }
 {
-    match text(entries, row, directive) {
-        Some(text) => match number_in(low, high, text) {
-            Some(n) => n,
-            None => default,
-        },
+    match number(entries, row, directive) {
+        Some(number) => number,
         None => default,
+    }
+}
+
+/// A truth value that is given.
+pub(crate) fn truth(entries: &[PropertyLine<'_>], row: &Row, directive: Directive) -> Option<bool>
+    ensures { result ≡ truth_in (property_at (as_properties entries.now) row.now) directive }
+{
+    match said(entries, row, directive) {
+        Some(Value::Truth(truth)) => Some(truth),
+        _ => None,
     }
 }
 
@@ -84,30 +109,11 @@ pub(crate) fn truth_or(
     directive: Directive,
     default: bool,
 ) -> bool
-    ensures { result ≡ truth_or default (property_at (as_properties entries.now) row.now directive) }
+    ensures { result ≡ truth_or (property_at (as_properties entries.now) row.now) directive default }
 {
-    match text(entries, row, directive) {
-        Some(text) => match truth_of(text) {
-            Some(truth) => truth,
-            None => default,
-        },
+    match truth(entries, row, directive) {
+        Some(truth) => truth,
         None => default,
-    }
-}
-
-/// A number that is given, at most this one; no line, no number.
-pub(crate) fn limit(
-    entries: &[PropertyLine<'_>],
-    row: &Row,
-    directive: Directive,
-    most: u64,
-) -> Option<u64>
-    ensures value { result ≡ limit_in most (property_at (as_properties entries.now) row.now directive) }
-    ensures below { is_at_most most result ≡ true }
-{
-    match text(entries, row, directive) {
-        Some(text) => number_in(0, most, text),
-        None => None,
     }
 }
 
@@ -118,16 +124,6 @@ pub(crate) fn is_limited(limit: Option<u64>) -> bool
     match limit {
         Some(n) => 0 < n,
         None => false,
-    }
-}
-
-/// A truth value that is given.
-pub(crate) fn truth(entries: &[PropertyLine<'_>], row: &Row, directive: Directive) -> Option<bool>
-    ensures { result ≡ truth_in (property_at (as_properties entries.now) row.now directive) }
-{
-    match text(entries, row, directive) {
-        Some(text) => truth_of(text),
-        None => None,
     }
 }
 
@@ -143,35 +139,26 @@ pub(crate) fn is_closed(entries: &[PropertyLine<'_>], row: &Row) -> bool
 pub(crate) fn kind(entries: &[PropertyLine<'_>], row: &Row) -> WorkerKind
     ensures { result ≡ kind_in (property_at (as_properties entries.now) row.now Directive.Kind) }
 {
-    match text(entries, row, Directive::Kind) {
-        Some(text) => match kind_of(text) {
-            Some(kind) => kind,
-            None => WorkerKind::Ajp13,
-        },
-        None => WorkerKind::Ajp13,
+    match said(entries, row, Directive::Kind) {
+        Some(Value::Kind(kind)) => kind,
+        _ => WorkerKind::Ajp13,
     }
 }
 
 pub(crate) fn activation(entries: &[PropertyLine<'_>], row: &Row) -> Activation
     ensures { result ≡ activation_in (property_at (as_properties entries.now) row.now Directive.Activation) }
 {
-    match text(entries, row, Directive::Activation) {
-        Some(text) => match activation_of(text) {
-            Some(activation) => activation,
-            None => Activation::Active,
-        },
-        None => Activation::Active,
+    match said(entries, row, Directive::Activation) {
+        Some(Value::Activation(activation)) => activation,
+        _ => Activation::Active,
     }
 }
 
 pub(crate) fn method(entries: &[PropertyLine<'_>], row: &Row) -> Method
     ensures { result ≡ method_in (property_at (as_properties entries.now) row.now Directive.Method) }
 {
-    match text(entries, row, Directive::Method) {
-        Some(text) => match method_of(text) {
-            Some(method) => method,
-            None => Method::Request,
-        },
-        None => Method::Request,
+    match said(entries, row, Directive::Method) {
+        Some(Value::Method(method)) => method,
+        _ => Method::Request,
     }
 }

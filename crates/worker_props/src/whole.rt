@@ -6,7 +6,7 @@ ghost use Rattle.worker_props.specs.Site.{is_maintain_line, maintain_of};
 ghost use Rattle.worker_props.specs.Given.{last_of};
 ghost use Rattle.jk_model.specs.declared.config.TheConstants.{MAX_PERIOD_SECONDS};
 
-use site_config::{PropertyLine, number_in};
+use site_config::{PropertyLine, period_of};
 
 /// The last line that gives the seconds between two maintenances.
 fn maintain_line<'t>(entries: &[PropertyLine<'t>]) -> Option<PropertyLine<'t>>
@@ -28,7 +28,7 @@ pub(crate) fn maintain_of(entries: &[PropertyLine<'_>]) -> u64
     ensures below { result ≤ MAX_PERIOD_SECONDS }
 {
     match maintain_line(entries) {
-        Some(entry) => match number_in(1, 86400, entry.value) {
+        Some(entry) => match period_of(entry.value) {
             Some(seconds) => seconds,
             None => 60,
         },
