@@ -17,7 +17,7 @@ use Rattle.balancer_core.specs.declared.receipt.Receipt.{Receipt}
 use Rattle.locked_balancer.specs.declared.view.View.{View}
 use Rattle.locked_balancer.specs.Histories.{SeatMaySee, SeatSees, gained_in, number_of, own_count, own_in, seat_note, seen_of}
 use Rattle.locked_balancer.specs.Notes.{MarkNote}
-use Rattle.locked_balancer.specs.SharedLists.{ListsChoose, ListsCommand, ListsDeny, ListsRefuse, SharedLists}
+use Rattle.locked_balancer.specs.Stakes.{StakeChooses, StakeCommands, StakeDenies, StakeRefuses, StakeState}
 use Rattle.locked_balancer.proofs.GoneLaws.{Adds}
 use Rattle.locked_balancer.proofs.LeftLaws.{drop_front, own_sees}
 
@@ -77,13 +77,13 @@ count_looked starts lock lock' old new a a' sees same counted =
     ap (λ (n : ℕ). own_in n (seen_of new.0)) sees.number ∙ own_sees starts (number_of old.0) (seen_of old.0) (seen_of new.0) [] sees.sees in
     omega (arith, ap (λ (es : List (ℕ × Entry)). length es) own, length-append (own_in (number_of old.0) (seen_of old.0)) [], same, counted)
 
-pub adds_choice : (sizes : List ℕ) (old new : SharedLists) (on : Occasion) (ask : Ask) (r : Result (Choice LeaseNote) (RoomError MarkNote))
-    → IfOk r (ListsChoose sizes old new on ask) → IfErr r (ListsDeny sizes old new on) → Adds old.receipts new.receipts
+pub adds_choice : (sizes : List ℕ) (old new : StakeState) (on : Occasion) (ask : Ask) (r : Result (Choice LeaseNote) (RoomError MarkNote))
+    → IfOk r (StakeChooses sizes old new on ask) → IfErr r (StakeDenies sizes old new on) → Adds old.receipts new.receipts
 adds_choice sizes old new on ask (Ok c) ok err = (_, (ok 0 0 0 None).gains.gains.receipts)
 adds_choice sizes old new on ask (Err e) ok err = (_, (err 0 0 0 0 0 None).gains.receipts)
 
-pub adds_command : {U : Type 0} (sizes : List ℕ) (old new : SharedLists) (on : Occasion) (command : Command) (r : Result U (AdminError MarkNote))
-    → IfOk r (λ _. ListsCommand sizes old new on command) → IfErr r (ListsRefuse sizes old new on command) → Adds old.receipts new.receipts
+pub adds_command : {U : Type 0} (sizes : List ℕ) (old new : StakeState) (on : Occasion) (command : Command) (r : Result U (AdminError MarkNote))
+    → IfOk r (λ _. StakeCommands sizes old new on command) → IfErr r (StakeRefuses sizes old new on command) → Adds old.receipts new.receipts
 adds_command sizes old new on command (Ok c) ok err = (_, (ok 0 0 0 None).gains.gains.receipts)
 adds_command sizes old new on command (Err e) ok err = (_, (err 0 0 0 0 0 None).gains.receipts)
 

@@ -1,5 +1,5 @@
 -- What a desk did since a moment, after one call more.
-use Rattle.std.proofs.Common.{◌≡◌, ℕ, List, [], ◌∷◌, ◌++◌, map, inl, inr, refl, sym, ap, ◌∙◌, subst, append-nil}
+use Rattle.std.proofs.Common.{◌≡◌, ℕ, List, [], ◌∷◌, ◌++◌, inl, inr, refl, sym, ap, ◌∙◌, subst, append-nil}
 use Rattle.std.specs.Prelude.{IfErr, IfOk, Result, Ok, Err}
 use Rattle.jk_model.specs.declared.ask.Ask.{Ask}
 use Rattle.jk_model.specs.declared.change.Command.{Command}
@@ -14,7 +14,6 @@ use Rattle.balancer_core.specs.declared.desk.Choice.{Choice}
 use Rattle.balancer_core.specs.declared.receipt.Receipt.{Receipt}
 use Rattle.locked_balancer.specs.Histories.{DeskMaySee, DeskSees, HasGone, SeatNote, gained_in, noted}
 use Rattle.locked_balancer.specs.Notes.{MarkNote}
-use Rattle.locked_balancer.specs.SharedDesks.{SharedState}
 use Rattle.locked_balancer.proofs.LeftLaws.{drop_front, gone_on}
 
 -- Receipts were only added to.

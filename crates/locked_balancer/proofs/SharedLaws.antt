@@ -1,5 +1,5 @@
 -- What a hold of the lock is for the desk that has it.
-use Rattle.std.proofs.Common.{◌≡◌, ℕ, zero, suc, ◌+◌, ◌^◌, ◌<◌, ◌≤◌, Bool, true, false, not, List, [], ◌∷◌, ◌++◌, length, take, drop, get_or, Option, Some, None, refl, sym, ap, ◌∙◌, subst, inl, inr, arith, append-nil}
+use Rattle.std.proofs.Common.{◌≡◌, ℕ, zero, suc, ◌+◌, ◌^◌, ◌<◌, ◌≤◌, true, false, not, List, [], ◌∷◌, ◌++◌, length, take, drop, get_or, Option, Some, None, refl, sym, ap, ◌∙◌, subst, inl, inr, arith, append-nil}
 use Rattle.std.specs.Prelude.{◌&&◌, IfErr, IfOk, IfSome, OnErr, OnOk, Result, Ok, Err, reverse, slice_get, slice_index}
 use Rattle.std.specs.List.{AllByRecursion as ByRecursion}
 use Rattle.std.proofs.lemmas.Bool.{cases_Bool}
@@ -468,12 +468,12 @@ module _ (sizes firsts : List ℕ) (before after : List Journal) (cut : Option (
   abbrev pub BackErr : Type 0
   BackErr = CutMeets sizes firsts cut (held before rs a) (held after rs' a') lease.lb
 
-  pub back_ok : {E : Type 0} (parts parts' : ℕ) (r : Result (Unit {0}) E) → parts' ≡ parts → OnOk r BackOk
-      → OnOk r ((s f w : ℕ) (m : Option Stray) (h h' : List (ℕ × ℕ)) → TakesBack (shared_desk sizes parts rs h a s f w m) (shared_desk sizes parts' rs' h' a' s f w m) session at lease outcome)
-  back_ok parts parts' (Ok x) same ok = λ s f w m h h'.
+  pub back_ok : {E : Type 0} (parts parts' : ℕ) (h h' : List (ℕ × ℕ)) (r : Result (Unit {0}) E) → parts' ≡ parts → OnOk r BackOk
+      → OnOk r ((s f w : ℕ) (m : Option Stray) → TakesBack (shared_desk sizes parts rs h a s f w m) (shared_desk sizes parts' rs' h' a' s f w m) session at lease outcome)
+  back_ok parts parts' h h' (Ok x) same ok = λ s f w m.
       subst (λ (n : ℕ). TakesBack (shared_desk sizes parts rs h a s f w m) (shared_desk sizes n rs' h' a' s f w m) session at lease outcome) (sym same)
       (takes_back_desk sizes firsts parts (held ok.0 rs a) (held after rs' a') h h' s f w m session at lease outcome ok.3.0 ok.2 ok.3.1 ok.3.2)
-  back_ok parts parts' (Err e) same ok = tt
+  back_ok parts parts' h h' (Err e) same ok = tt
 
   pub back_length : {E : Type 0} (r : Result (Unit {0}) E) → OnOk r BackOk → OnOk r (length rs' ≡ length rs + 1)
   back_length (Ok x) ok = ap (λ (xs : List Receipt). length xs) ok.3.2.receipts ∙ length-append rs (ok.3.0 ∷ [])

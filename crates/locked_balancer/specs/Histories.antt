@@ -13,7 +13,6 @@ use Rattle.locked_balancer.specs.Seats.{by_seat, seated}
 use Rattle.locked_balancer.specs.declared.view.Claim.{Claim}
 use Rattle.locked_balancer.specs.declared.view.View.{View}
 use Rattle.balancer_core.specs.Histories.{IsHistoryOf}
-use Rattle.locked_balancer.specs.Holds.{LockedState}
 use Rattle.locked_balancer.specs.Notes.{ViewNote}
 use Rattle.locked_balancer.specs.Sites.{At}
 
@@ -50,12 +49,6 @@ entries_in (Some b) = b.entries
 abbrev pub last_in : List Journal → (lb count : ℕ) → List (ℕ × Entry)
 last_in books lb count =
     let kept = entries_in (slice_get books lb) in map (λ e. (lb, e)) (drop (length kept - count) kept)
-
--- The value of the Site's lock, with the balancer of the last hold and how many entries it added.
-pub record ToldState : Type 0 where
-  pub locked : LockedState
-  pub lb : ℕ
-  pub count : ℕ
 
 -- What a desk with this number has seen, before a hold and after it: a history of the Site that begins with all that it
 -- had seen, goes on with entries of other desks, and ends with those of this hold. So of this desk's entries the history
@@ -142,12 +135,6 @@ pub record IsClosed (starts : List Opening) (seats : List SeatNote) (books : Lis
 -- The view is that of balancer lb after this history of the Site.
 abbrev pub IsPresentOf : List Opening → (log : List (ℕ × (ℕ × Entry))) → (lb : ℕ) → ViewNote → Type 0
 IsPresentOf starts log lb v = (o : Opening) → slice_get starts lb ≡ Some o → IsPresent modern_rules o (reverse (entries_of lb log)) v.view
-
--- The Books as a hold found them and as it left them, of which this is so.
-pub record OfBooks (P : (books books' : List Journal) → Type 0) : Type 0 where
-  pub books : List Journal
-  pub after : List Journal
-  pub is : P books after
 
 -- What a desk did since it had this seat and these receipts: it is at the same lock under the same number. Its receipts were
 -- only added to, and of its own entries it has seen just those of the added ones besides, in their order.

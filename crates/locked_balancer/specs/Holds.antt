@@ -1,5 +1,5 @@
 -- What one hold of the lock does: a Maintain if due, and then a call, on one Book.
-use Rattle.std.specs.Prelude.{◌≡◌, ℕ, ◌+◌, ◌<◌, ◌≤◌, ◌⊎◌, Bool, false, List, [], ◌∷◌, ◌++◌, length, sum_by, Option, Some, None, Result, Ok, Err, slice_get, slice_index, slice_set}
+use Rattle.std.specs.Prelude.{◌≡◌, ℕ, ◌+◌, ◌-◌, ◌<◌, ◌≤◌, ◌⊎◌, Bool, false, List, [], ◌∷◌, ◌++◌, length, sum_by, Option, Some, None, Result, Ok, Err, slice_get, slice_index, slice_set, vec_capacity}
 use Rattle.std.specs.List.{All}
 use Rattle.jk_model.specs.Free.{is_in}
 use Rattle.jk_model.specs.Legal.{HasValues}
@@ -28,6 +28,9 @@ use Rattle.balancer_core.specs.declared.receipt.Receipt.{Receipt}
 use Rattle.locked_balancer.specs.Notes.{MarkNote}
 use Rattle.locked_balancer.specs.Shelves.{CutsAt}
 use Rattle.locked_balancer.specs.Sites.{AreSited, At}
+use Rattle.locked_balancer.specs.declared.account.Account.{Account}
+use Rattle.locked_balancer.specs.declared.locked.HandedBack.{HandedBack}
+use Rattle.locked_balancer.specs.declared.site.SiteName.{Ghosts}
 use Rattle.locked_balancer.specs.declared.site.MarkKind.{MarkKind}
 use Rattle.locked_balancer.specs.declared.site.MarkKind.TheVariants as refusal
 
@@ -35,10 +38,13 @@ use Rattle.locked_balancer.specs.declared.site.MarkKind.TheVariants as refusal
 abbrev pub pools_of : Journal → ℕ
 pools_of b = sum_by (λ c. c.pool) b.opening.config.members
 
--- The value behind the lock: the Books, and the number of kept entries at which a journal is cut; 0 is never.
+-- The value behind the lock: the Books, the number of kept entries at which a journal is cut, where 0 is never, and the
+-- balancer of the last hold with how many entries it added.
 pub record LockedState : Type 0 where
   pub books : List Journal
   pub cut_at : ℕ
+  pub lb : ℕ
+  pub count : ℕ
 
 -- Where journals are cut, none is much longer than the length at which it is cut.
 abbrev pub AreShort : (cut_at : ℕ) → List Journal → Type 0
@@ -53,6 +59,20 @@ pub record HeldState : Type 0 where
 
 abbrev pub held : List Journal → List Receipt → (amount : ℕ) → HeldState
 held books receipts amount = record { books = books; receipts = receipts; amount = amount }
+
+abbrev pub held_by : {L : Type 0} {n : Ghosts L} → List Journal → Account L n → HeldState
+held_by books account = held books account.receipts.items account.share.amount
+
+abbrev pub hold_of : {L : Type 0} {n : Ghosts L} → LockedState → Account L n → HeldState
+hold_of locked account = held_by locked.books account
+
+-- An account keeps its part of the ledger, and its room for receipts.
+abbrev pub KeepsAccount : {L : Type 0} {n : Ghosts L} → (old new : Account L n) → Type 0
+KeepsAccount old new = (new.share.parts ≡ old.share.parts) × (vec_capacity old.receipts ≤ vec_capacity new.receipts)
+
+-- The value behind the lock tells of balancer lb, and of as many entries as this account got receipts for.
+abbrev pub TellsNews : {L : Type 0} {n : Ghosts L} → (lb : ℕ) → LockedState → (old new : Account L n) → Type 0
+TellsNews lb told old new = (told.lb ≡ lb) × (told.count ≡ length new.receipts.items - length old.receipts.items)
 
 -- A receipt, if there is one, as a list.
 abbrev pub listed : Option Receipt → List Receipt
@@ -173,6 +193,9 @@ abbrev pub CutReturns : (sizes firsts : List ℕ) → Option (ℕ × Segment) �
 CutReturns sizes firsts cut old new session at lease outcome =
     (mid : List Journal) × CutsFirst old.books mid lease.lb cut × AreSited sizes firsts mid
     × HoldReturns (held mid old.receipts old.amount) new session at lease outcome
+
+abbrev pub CutTakesBack : {L : Type 0} → (sizes firsts : List ℕ) → Option (ℕ × Segment) → (old new : HeldState) → HandedBack L → Type 0
+CutTakesBack sizes firsts cut old new back = CutReturns sizes firsts cut old new back.session back.at back.lease back.outcome
 
 abbrev pub CutMeets : (sizes firsts : List ℕ) → Option (ℕ × Segment) → (old new : HeldState) → (lb : ℕ) → Type 0
 CutMeets sizes firsts cut old new lb =

@@ -5,7 +5,7 @@ pub mod Locks
 pub mod Notes
 pub mod Seats
 pub mod SharedDesks
-pub mod SharedLists
 pub mod Shelves
 pub mod SiteAnswers
 pub mod Sites
+pub mod Stakes

@@ -1,5 +1,5 @@
 -- What is told of a desk over a Site that is shared, and what it keeps.
-use Rattle.std.specs.Prelude.{◌≡◌, ℕ, suc, true, false, drop, slice_get, slice_index_or, ◌+◌, ◌<◌, ◌≤◌, ◌⊎◌, ◌↔◌, Bool, List, [], ◌∷◌, length, Option, Some, None, IfSome, IsSome, Result, Ok, Err}
+use Rattle.std.specs.Prelude.{◌≡◌, ℕ, suc, true, false, drop, slice_get, slice_index_or, ◌+◌, ◌<◌, ◌≤◌, ◌⊎◌, ◌↔◌, List, [], ◌∷◌, length, Option, Some, None, IfSome, IsSome, Result, Ok, Err}
 use Rattle.std.specs.List.{All}
 use Rattle.jk_io.specs.Told.{Rose, appended}
 use Rattle.jk_model.specs.Legal.{IsLegal}
@@ -98,6 +98,12 @@ CutsOrWants sizes cut_at lb cut Wanting = CutsWhen sizes cut_at lb cut ⊎ ((cut
 -- The first entry that was added after these receipts, if one was, has the number that comes after the last one of the segment.
 abbrev pub GoesOnFrom : Segment → (old new : List Receipt) → Type 0
 GoesOnFrom s old new = (r : Receipt) → slice_get new (length old) ≡ Some r → r.entry.seq ≡ s.opening.next + length s.entries
+
+-- What a hold of balancer lb cut, if anything: a segment of this balancer, as `CutsOrWants` says, from which the receipts go on.
+pub record CutsFor (sizes : List ℕ) (cut_at lb : ℕ) (cut : Option (ℕ × Segment)) (old new : List Receipt) (Wanting : Type 0) : Type 0 where
+  pub of : IfSome cut (λ s. s.0 ≡ lb)
+  pub when : CutsOrWants sizes cut_at lb cut Wanting
+  pub next : IfSome cut (λ s. GoesOnFrom s.1 old new)
 
 -- At most one segment of balancer lb was put away, and no receipt was forgotten.
 pub record PutsAwayOf {S : Type 0} (shelved : S → Option (List (ℕ × Segment))) (faults : S → ℕ) (sizes : List ℕ) (cut_at lb : ℕ) (old new : SharedState S) (Wanting : Type 0) : Type 0 where

@@ -12,39 +12,36 @@ ghost use Rattle.locked_balancer.specs.Holds.{
   IsAdminMark,
   IsRoomMark,
   IsSiteChoice,
-  held,
+  KeepsAccount,
+  held_by,
   listed,
 };
 ghost use Rattle.locked_balancer.specs.Notes.{lease_of};
 ghost use Rattle.locked_balancer.specs.Sites.{At};
 
+use crate::account::Account;
 use crate::site::{Site, SiteLease, SiteMark, SiteName, SitePicked, SiteReceipt};
 use balancer_core::desk::{Choice, Occasion};
 use jk_model::{AdminError, Answer, Ask, Command, RoomError};
-use std::sync::ledger::Share;
 
 // Does a Maintain if due.
 fn maintain_first<L: SiteName>(
     site: &mut Site<L>,
     on: Occasion,
-    share: &mut Share<L>,
-    receipts: &mut Vec<SiteReceipt<L>>,
+    account: &mut Account<L>,
 ) -> Result<(), RoomError<SiteMark<L>>>
     requires lb { on.lb < length site.old }
-    requires part { 0 < share.old.parts }
-    requires room { vec_len receipts.old < vec_capacity receipts.old }
-    ensures due { OnOk result (HoldMaintains (held site.old receipts.old.items share.old.amount)
-        (held site.new receipts.new.items share.new.amount) on.lb on.session on.at) }
+    requires room { vec_len account.old.receipts < vec_capacity account.old.receipts }
+    ensures due { OnOk result (HoldMaintains (held_by site.old account.old) (held_by site.new account.new) on.lb on.session on.at) }
     ensures up_to_date { OnOk result (At site.new on.lb (λ b. IsNoneDue b on.at)) }
     ensures refused { IfErr result (λ e. At site.old on.lb (λ b. RefusesMaintain (λ mark. mark.numbers) b on.at e)) }
-    ensures err { OnErr result (held site.new receipts.new.items share.new.amount ≡ held site.old receipts.old.items share.old.amount) }
+    ensures err { OnErr result (held_by site.new account.new ≡ held_by site.old account.old) }
     ensures mark { IfErr result (IsRoomMark on.lb 1) }
     ensures len { length site.new ≡ length site.old }
-    ensures parts { share.new.parts ≡ share.old.parts }
-    ensures room { vec_capacity receipts.old ≤ vec_capacity receipts.new }
+    ensures kept { KeepsAccount account.old account.new }
 {
-    let found = site.maintain_if_due(on.lb, on.session, on.at, share)?;
-    note_some(receipts, found);
+    let found = site.maintain_if_due(on.lb, on.session, on.at, &mut account.share)?;
+    note_some(&mut account.receipts, found);
     Ok(())
 }
 
@@ -73,24 +70,25 @@ pub(crate) fn choose_in<L: SiteName>(
     site: &mut Site<L>,
     on: Occasion,
     ask: &Ask,
-    share: &mut Share<L>,
-    receipts: &mut Vec<SiteReceipt<L>>,
+    account: &mut Account<L>,
 ) -> Result<Choice<SiteLease<L>>, RoomError<SiteMark<L>>>
     requires lb { on.lb < length site.old }
-    requires part { 0 < share.old.parts }
-    requires room { vec_len receipts.old + 2 ≤ vec_capacity receipts.old }
-    ensures ok { IfOk result (λ c. HoldChooses L.sizes (held site.old receipts.old.items share.old.amount)
-        (held site.new receipts.new.items share.new.amount) on.lb on.session on.at ask.now c) }
-    ensures err { IfErr result (HoldDenies (held site.old receipts.old.items share.old.amount)
-        (held site.new receipts.new.items share.new.amount) on.lb on.session on.at) }
+    requires room { vec_len account.old.receipts + 2 ≤ vec_capacity account.old.receipts }
+    ensures ok { IfOk result (λ c. HoldChooses L.sizes (held_by site.old account.old) (held_by site.new account.new) on.lb on.session on.at ask.now c) }
+    ensures err { IfErr result (HoldDenies (held_by site.old account.old) (held_by site.new account.new) on.lb on.session on.at) }
     ensures mark { IfErr result (IsRoomMark on.lb 2) }
-    ensures parts { share.new.parts ≡ share.old.parts }
-    ensures room { vec_capacity receipts.old ≤ vec_capacity receipts.new }
+    ensures kept { KeepsAccount account.old account.new }
 {
-    maintain_first(site, on, share, receipts)?;
-    let SitePicked { receipt, lease } = site.select(on.lb, on.session, on.at, ask, share)?;
+    maintain_first(site, on, account)?;
+    let SitePicked { receipt, lease } = site.select(
+        on.lb,
+        on.session,
+        on.at,
+        ask,
+        &mut account.share,
+    )?;
     let answer = receipt.receipt().entry.answer;
-    note(receipts, receipt);
+    note(&mut account.receipts, receipt);
     Ok(choice_of(on.lb, answer, lease))
 }
 
@@ -115,27 +113,22 @@ pub(crate) fn command_in<L: SiteName>(
     site: &mut Site<L>,
     on: Occasion,
     command: &Command,
-    share: &mut Share<L>,
-    receipts: &mut Vec<SiteReceipt<L>>,
+    account: &mut Account<L>,
 ) -> Result<(), AdminError<SiteMark<L>>>
     requires lb { on.lb < length site.old }
-    requires part { 0 < share.old.parts }
-    requires room { vec_len receipts.old + 2 ≤ vec_capacity receipts.old }
-    ensures ok { OnOk result (HoldCommands L.sizes (held site.old receipts.old.items share.old.amount)
-        (held site.new receipts.new.items share.new.amount) on.lb on.session on.at command.now) }
-    ensures err { IfErr result (HoldRefuses (held site.old receipts.old.items share.old.amount)
-        (held site.new receipts.new.items share.new.amount) on.lb on.session on.at command.now) }
+    requires room { vec_len account.old.receipts + 2 ≤ vec_capacity account.old.receipts }
+    ensures ok { OnOk result (HoldCommands L.sizes (held_by site.old account.old) (held_by site.new account.new) on.lb on.session on.at command.now) }
+    ensures err { IfErr result (HoldRefuses (held_by site.old account.old) (held_by site.new account.new) on.lb on.session on.at command.now) }
     ensures mark { IfErr result (IsAdminMark on.lb) }
-    ensures parts { share.new.parts ≡ share.old.parts }
-    ensures room { vec_capacity receipts.old ≤ vec_capacity receipts.new }
+    ensures kept { KeepsAccount account.old account.new }
 {
-    match maintain_first(site, on, share, receipts) {
+    match maintain_first(site, on, account) {
         Ok(()) => {}
         Err(RoomError::Full(mark)) => return Err(AdminError::Full(mark)),
         Err(RoomError::NoMemory) => return Err(AdminError::NoMemory),
     }
     site.count();
-    let receipt = site.admin(on.lb, on.session, on.at, command, share)?;
-    note(receipts, receipt);
+    let receipt = site.admin(on.lb, on.session, on.at, command, &mut account.share)?;
+    note(&mut account.receipts, receipt);
     Ok(())
 }

@@ -16,8 +16,7 @@
 //! After a refusal of a Site it and the share are as they were; a segment that a refused hold cut goes to the shelf all the same.
 #![tactic(auto)]
 
-mod at_site;
-mod held;
+mod account;
 mod holds;
 mod left_seat;
 mod lent_desk;

@@ -4,13 +4,13 @@ ghost use Rattle.locked_balancer.specs.Histories.{own_count};
 ghost use Rattle.locked_balancer.specs.Holds.{cut_in};
 ghost use Rattle.locked_balancer.specs.SharedDesks.{CountsFull, CountsRefusal, PutsAway, first_met};
 
-use crate::at_site::{choose_at, command_at, give_back_at, look_at, take_last};
+use crate::account::Account;
 use crate::left_seat::LeftSeat;
 use crate::locked::HandedBack;
 use crate::shared_site::SharedSite;
 use crate::shelf::Shelf;
 use crate::site::{
-    SiteLease, SiteMark, SiteName, SiteReceipt, SiteReceiptList, SiteSegment, SiteStray, SiteView,
+    SiteLease, SiteMark, SiteName, SiteReceiptList, SiteSegment, SiteStray, SiteView,
 };
 use crate::stake::Stake;
 use balancer_core::Desk;
@@ -32,11 +32,7 @@ const RETURN_ALONE: usize = 1;
 /// a hold that adds entries the shelf lets the desk wait, where too many aren't kept yet.
 #[derive(Drop)]
 pub struct SharedDesk<'s, 'r, L: SiteName, S: Shelf, R> {
-    site: &'s SharedSite<'r, L, R>,
-    stake: Stake<L>,
-    receipts: Vec<SiteReceipt<L>>,
-    /// Balancer and ticket of each lease that is out, in the order of the choices.
-    held: Vec<(u32, u64)>,
+    stake: Stake<'s, 'r, L, R>,
     shelf: S,
     /// The first stray that was met since the last was taken.
     met: Option<SiteStray<L>>,
@@ -44,33 +40,22 @@ pub struct SharedDesk<'s, 'r, L: SiteName, S: Shelf, R> {
     fulls: u64,
     wides: u64,
     wants: u64,
-    forgotten: u64,
 }
 
 impl<'s, 'r, L: SiteName, S: Shelf, R> Model for SharedDesk<'s, 'r, L, S, R> {
-    ghost use Rattle.std.specs.Prelude.{◌≡◌, length, vec_capacity};
-    ghost use Rattle.locked_balancer.specs.Histories.{IsResting, number_of, own_count, seat_note, seen_of};
-    ghost use Rattle.locked_balancer.specs.SharedDesks.{IsShared, SharedState, shared_desk, stray_in};
+    ghost use Rattle.locked_balancer.specs.SharedDesks.{SharedState, stray_in};
+    ghost use Rattle.locked_balancer.specs.Stakes.{told_of};
 
     ghost Value = { SharedState S };
 
     ghost view = { λ d. record {
-      desk = shared_desk L.sizes d.stake.share.parts d.receipts.items d.held.items d.stake.share.amount d.strays d.fulls d.wides (stray_in d.met);
+      desk = told_of L.sizes d.stake d.strays d.fulls d.wides (stray_in d.met);
       shelf = d.shelf;
-      forgotten = d.forgotten;
+      forgotten = d.stake.forgotten;
       wants = d.wants;
       met = d.met;
-      seat = record {
-        lock = d.stake.seat.table_id;
-        number = number_of d.stake.seat.me.0;
-        seen = seen_of d.stake.seat.me.0;
-      };
+      seat = d.stake.seat;
     } };
-
-    ghost invariant = { λ d. IsShared (length L.sizes) d.receipts.items d.held.items d.stake.share.parts d.stake.share.amount d.forgotten
-        (vec_capacity d.receipts)
-        × (d.stake.seat.table_id ≡ d.site.now.lock.table.shared.table_id) × IsResting d.stake.seat.me
-        × (own_count (seat_note d.stake.seat.table_id d.stake.seat.me) ≡ d.stake.share.amount) };
 }
 
 /// What a desk leaves: its share, the receipts that it has, how many it forgot, its shelf, and its seat at the lock. Its share
@@ -111,20 +96,13 @@ impl<'s, 'r, L: SiteName, S: Shelf, R> SharedDesk<'s, 'r, L, S, R> {
         ensures lock { result.seat.lock ≡ lock_of site.now }
     {
         SharedDesk {
-            site,
-            stake: Stake {
-                share,
-                seat: site.lock.seat(),
-            },
-            receipts: Vec::new(alloc),
-            held: Vec::new(alloc),
+            stake: Stake::new(alloc, site, share),
             shelf,
             met: None,
             strays: 0,
             fulls: 0,
             wides: 0,
             wants: 0,
-            forgotten: 0,
         }
     }
 
@@ -135,8 +113,7 @@ impl<'s, 'r, L: SiteName, S: Shelf, R> SharedDesk<'s, 'r, L, S, R> {
         ensures same { (self.new.shelf ≡ self.old.shelf) × (self.new.wants ≡ self.old.wants) × (self.new.met ≡ self.old.met) }
         ensures seat { self.new.seat ≡ self.old.seat }
     {
-        self.forgotten += self.receipts.len() as u64;
-        self.receipts.clear();
+        self.stake.forget();
     }
 
     /// Takes the first stray that was met since this was called last.
@@ -189,20 +166,19 @@ impl<'s, 'r, L: SiteName, S: Shelf, R> SharedDesk<'s, 'r, L, S, R> {
         ensures none_met { OnOk result.1 (self.new.met ≡ self.old.met) }
         ensures met { IfErr result.1 (λ stray. self.new.met ≡ first_met self.old.met (record { lb = lease.lb; stray = stray })) }
     {
-        let (lb, ticket, before) = (lease.lb(), lease.ticket(), self.receipts.len());
-        let admission = self.shelf.admit(lb, RETURN_ALONE, self.site.cut_at);
-        let (cut, done) = give_back_at(
-            self.site,
-            &mut self.stake,
-            &mut self.receipts,
+        let before = self.stake.count();
+        let admission = self
+            .shelf
+            .admit(lease.lb(), RETURN_ALONE, self.stake.cut_at());
+        let (cut, done) = self.stake.give_back(HandedBack {
             session,
             at,
-            HandedBack { lease, outcome },
-        );
+            lease,
+            outcome,
+        });
         let kept = put_cut(&mut self.shelf, &mut self.wants, cut);
         self.shelf
-            .settle(admission, self.receipts.len().saturating_sub(before));
-        take_last(&mut self.held, (lb, ticket));
+            .settle(admission, self.stake.count().saturating_sub(before));
         match done {
             Ok(()) => (kept, Ok(())),
             Err(stray) => {
@@ -226,19 +202,22 @@ impl<'s, 'r, L: SiteName, S: Shelf, R> SharedDesk<'s, 'r, L, S, R> {
         ensures seat { result.seat ≡ self.entry.seat }
     {
         let SharedDesk {
-            site: _,
             stake,
-            receipts,
-            held: _,
             shelf,
             met: _,
             strays: _,
             fulls: _,
             wides: _,
             wants: _,
-            forgotten,
         } = self;
-        let Stake { share, seat } = stake;
+        let Stake {
+            site: _,
+            account,
+            forgotten,
+            held: _,
+            seat,
+        } = stake;
+        let Account { share, receipts } = account;
         Leaving {
             share,
             receipts: SiteReceiptList::from_vec(receipts),
@@ -309,19 +288,12 @@ impl<'s, 'r, L: SiteName, S: Shelf, R: Wait> Desk for SharedDesk<'s, 'r, L, S, R
         ensures sees { DeskMaySee L.starts self.old.seat self.new.seat (gained_in self.old.desk.receipts self.new.desk.receipts) (IsErrOf result RoomError.NoMemory) }
         ensures met { self.new.met ≡ self.old.met }
     {
-        let before = self.receipts.len();
-        let admission = self.shelf.admit(lb, MAINTAIN_AND_CALL, self.site.cut_at);
-        let (segment, done) = choose_at(
-            self.site,
-            &mut self.stake,
-            &mut self.receipts,
-            &mut self.held,
-            Occasion { lb, session, at },
-            ask,
-        );
+        let before = self.stake.count();
+        let admission = self.shelf.admit(lb, MAINTAIN_AND_CALL, self.stake.cut_at());
+        let (segment, done) = self.stake.choose(Occasion { lb, session, at }, ask);
         put_away(&mut self.shelf, &mut self.wants, segment);
         self.shelf
-            .settle(admission, self.receipts.len().saturating_sub(before));
+            .settle(admission, self.stake.count().saturating_sub(before));
         count_full(&mut self.fulls, &done);
         done
     }
@@ -378,19 +350,12 @@ impl<'s, 'r, L: SiteName, S: Shelf, R: Wait> Desk for SharedDesk<'s, 'r, L, S, R
         ensures sees { DeskMaySee L.starts self.old.seat self.new.seat (gained_in self.old.desk.receipts self.new.desk.receipts) (IsErrOf result AdminError.NoMemory) }
         ensures met { self.new.met ≡ self.old.met }
     {
-        let before = self.receipts.len();
-        let admission = self.shelf.admit(lb, MAINTAIN_AND_CALL, self.site.cut_at);
-        let (segment, done) = command_at(
-            self.site,
-            &mut self.stake,
-            &mut self.receipts,
-            self.held.as_slice(),
-            Occasion { lb, session, at },
-            command,
-        );
+        let before = self.stake.count();
+        let admission = self.shelf.admit(lb, MAINTAIN_AND_CALL, self.stake.cut_at());
+        let (segment, done) = self.stake.command(Occasion { lb, session, at }, command);
         put_away(&mut self.shelf, &mut self.wants, segment);
         self.shelf
-            .settle(admission, self.receipts.len().saturating_sub(before));
+            .settle(admission, self.stake.count().saturating_sub(before));
         count_refusal(&mut self.fulls, &mut self.wides, &done);
         done
     }
@@ -409,7 +374,7 @@ impl<'s, 'r, L: SiteName, S: Shelf, R: Wait> Desk for SharedDesk<'s, 'r, L, S, R
             → slice_index L.firsts lb + self.old.desk.added ≤ shown.view.next) }
         ensures lb { IfOk result (λ shown. shown.lb ≡ lb) }
     {
-        look_at(self.site, &mut self.stake, lb)
+        self.stake.look(lb)
     }
 
     fn shown(shown: &SiteView<L>) -> &View {

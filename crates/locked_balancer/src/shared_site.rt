@@ -3,7 +3,7 @@
 use crate::left_seat::LeftSeatList;
 use crate::locked::Locked;
 use crate::site::{Site, SiteName};
-use crate::told::{SiteLock, Told};
+use crate::told::SiteLock;
 use jk_io::NoMemory;
 use std::alloc::Global;
 use std::sync::Wait;
@@ -38,7 +38,7 @@ impl<'r, L: SiteName, R> SharedSite<'r, L, R> {
         requires fresh { All (λ b. (b.entries ≡ []) × (b.added ≡ 0)) site }
     {
         site.count();
-        match SiteLock::<L>::open(alloc, Told::new(Locked::new(site, cut_at))) {
+        match SiteLock::<L>::open(alloc, Locked::new(site, cut_at)) {
             Ok(lock) => Ok(SharedSite { rt, lock, cut_at }),
             Err(_) => Err(NoMemory),
         }
@@ -61,6 +61,6 @@ impl<'r, L: SiteName, R> SharedSite<'r, L, R> {
         for other in seats.into_vec() {
             lock.join(&mut seat, other.into_seat());
         }
-        lock.close(rt, seat).into_locked().into_site()
+        lock.close(rt, seat).into_site()
     }
 }

@@ -11,8 +11,8 @@ use Rattle.locked_balancer.proofs.holds.choose_in.Goals as goal
 
 pub returns-clause-ok : goal.returns-clause-ok
 returns-clause-ok g c =
-    chooses g.L.SiteName.sizes (held c.args.site.now c.args.receipts.now.items c.args.share.now.amount)
-    (held c.maintain_first.new.site c.maintain_first.new.receipts.items c.maintain_first.new.share.amount)
+    chooses g.L.SiteName.sizes (held c.args.site.now c.args.account.now.receipts.items c.args.account.now.share.amount)
+    (held c.maintain_first.new.site c.maintain_first.new.account.receipts.items c.maintain_first.new.account.share.amount)
     (held c.select.new.self c.note.new.receipts.items c.select.new.share.amount) c.args.on.lb c.args.on.session c.args.on.at c.args.ask.now
     c.in_ok-receipt.field-0.receipt c.choice_of.result c.in_ok-maintain_first.ensures.due c.in_ok-receipt.ensures.ok c.note.ensures.items
     c.in_ok-receipt.ensures.amount c.in_ok-receipt.ensures.pick
@@ -23,14 +23,14 @@ returns-clause-ok g c =
 pub returns-in_err-maintain_first-clause-err : goal.returns-in_err-maintain_first-clause-err
 returns-in_err-maintain_first-clause-err g c =
     of_error c.from_residual.result c.in_err-maintain_first.field-0.0 _ c.from_residual.ensures.1
-    (denied_first (held c.args.site.now c.args.receipts.now.items c.args.share.now.amount)
-    (held c.maintain_first.new.site c.maintain_first.new.receipts.items c.maintain_first.new.share.amount) c.args.on.lb c.args.on.session c.args.on.at _ _
+    (denied_first (held c.args.site.now c.args.account.now.receipts.items c.args.account.now.share.amount)
+    (held c.maintain_first.new.site c.maintain_first.new.account.receipts.items c.maintain_first.new.account.share.amount) c.args.on.lb c.args.on.session c.args.on.at _ _
     c.in_err-maintain_first.ensures.err c.requires.lb (λ b here. inr (refl, c.in_err-maintain_first.ensures.refused b here)))
 
 pub returns-in_err-receipt-clause-err : goal.returns-in_err-receipt-clause-err
 returns-in_err-receipt-clause-err g c =
-    let old = held c.args.site.now c.args.receipts.now.items c.args.share.now.amount in
-    let mid = held c.maintain_first.new.site c.maintain_first.new.receipts.items c.maintain_first.new.share.amount in
+    let old = held c.args.site.now c.args.account.now.receipts.items c.args.account.now.share.amount in
+    let mid = held c.maintain_first.new.site c.maintain_first.new.account.receipts.items c.maintain_first.new.account.share.amount in
     of_error c.from_residual-in_err-receipt.result c.in_err-receipt.field-0.0 _ c.from_residual-in_err-receipt.ensures.1
     (denied_after old mid c.select.new.self c.select.new.share.amount c.args.on.lb c.args.on.session c.args.on.at _ _ c.in_ok-maintain_first.ensures.due
     c.in_err-receipt.ensures.err c.in_err-receipt.ensures.amount

@@ -19,15 +19,15 @@ use Rattle.locked_balancer.proofs.holds.command_in.Goals as goal
 
 pub returns-clause-ok : goal.returns-clause-ok
 returns-clause-ok g c =
-    commands g.L.SiteName.sizes g.L.SiteName.firsts (held c.args.site.now c.args.receipts.now.items c.args.share.now.amount)
-    (held c.maintain_first.new.site c.maintain_first.new.receipts.items c.maintain_first.new.share.amount)
+    commands g.L.SiteName.sizes g.L.SiteName.firsts (held c.args.site.now c.args.account.now.receipts.items c.args.account.now.share.amount)
+    (held c.maintain_first.new.site c.maintain_first.new.account.receipts.items c.maintain_first.new.account.share.amount)
     (held c.admin.new.self c.note.new.receipts.items c.admin.new.share.amount) c.args.on.lb c.args.on.session c.args.on.at c.args.command.now
     c.in_ok-receipt.receipt (c.in-Ok.ensures.due) c.count.ensures.named c.in_ok-receipt.ensures.ok c.note.ensures.items c.in_ok-receipt.ensures.amount c.in_ok-receipt.ensures.commanded
 
 pub returns-in_err-receipt-clause-err : goal.returns-in_err-receipt-clause-err
 returns-in_err-receipt-clause-err g c =
-    let old = held c.args.site.now c.args.receipts.now.items c.args.share.now.amount in
-    let mid = held c.maintain_first.new.site c.maintain_first.new.receipts.items c.maintain_first.new.share.amount in
+    let old = held c.args.site.now c.args.account.now.receipts.items c.args.account.now.share.amount in
+    let mid = held c.maintain_first.new.site c.maintain_first.new.account.receipts.items c.maintain_first.new.account.share.amount in
     of_error c.from_residual.result c.in_err-receipt.field-0.0 _ c.from_residual.ensures.1
     (denied_after old mid c.admin.new.self c.admin.new.share.amount c.args.on.lb c.args.on.session c.args.on.at _ _ c.in-Ok.ensures.due
     c.in_err-receipt.ensures.err c.in_err-receipt.ensures.amount
@@ -51,14 +51,14 @@ refused_before a b lb session at c e found first same within is found_is why =
 pub returns-in-Err-Full-clause-err : goal.returns-in-Err-Full-clause-err
 returns-in-Err-Full-clause-err g c =
     rw c.in-Err-Full.field-0-is
-    (refused_before (held c.args.site.now c.args.receipts.now.items c.args.share.now.amount)
-    (held c.maintain_first.new.site c.maintain_first.new.receipts.items c.maintain_first.new.share.amount) c.args.on.lb c.args.on.session c.args.on.at
+    (refused_before (held c.args.site.now c.args.account.now.receipts.items c.args.account.now.share.amount)
+    (held c.maintain_first.new.site c.maintain_first.new.account.receipts.items c.maintain_first.new.account.share.amount) c.args.on.lb c.args.on.session c.args.on.at
     c.args.command.now (admin.Full c.in-Err-Full.mark) _ (room.Full c.in-Err-Full.mark) c.in-Err-Full.ensures.err c.requires.lb refl
     c.in-Err-Full.field-0-is c.in-Err-Full.ensures.refused)
 
 pub returns-in-Err-NoMemory-clause-err : goal.returns-in-Err-NoMemory-clause-err
 returns-in-Err-NoMemory-clause-err g c =
-    refused_before (held c.args.site.now c.args.receipts.now.items c.args.share.now.amount)
-    (held c.maintain_first.new.site c.maintain_first.new.receipts.items c.maintain_first.new.share.amount) c.args.on.lb c.args.on.session c.args.on.at
+    refused_before (held c.args.site.now c.args.account.now.receipts.items c.args.account.now.share.amount)
+    (held c.maintain_first.new.site c.maintain_first.new.account.receipts.items c.maintain_first.new.account.share.amount) c.args.on.lb c.args.on.session c.args.on.at
     c.args.command.now admin.NoMemory _ room.NoMemory c.in-Err-NoMemory.ensures.err c.requires.lb refl
     c.in-Err-NoMemory.field-0-is c.in-Err-NoMemory.ensures.refused

@@ -20,6 +20,6 @@ returns-in_err-found-clause-mark g c =
 
 pub returns-clause-due : goal.returns-clause-due
 returns-clause-due g c =
-    maintains c.in_ok-found.found c.args.site.now c.maintain_if_due.new.self c.args.receipts.now.items c.note_some.new.receipts.items
-    c.args.share.now.amount c.maintain_if_due.new.share.amount c.args.on.lb c.args.on.session c.args.on.at c.requires.lb
+    maintains c.in_ok-found.found c.args.site.now c.maintain_if_due.new.self c.args.account.now.receipts.items c.note_some.new.receipts.items
+    c.args.account.now.share.amount c.maintain_if_due.new.share.amount c.args.on.lb c.args.on.session c.args.on.at c.requires.lb
     c.in_ok-found.ensures.ok c.in_ok-found.ensures.due c.in_ok-found.ensures.amount c.note_some.ensures.items

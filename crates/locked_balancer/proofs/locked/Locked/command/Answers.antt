@@ -1,5 +1,5 @@
 -- A hold of a journal that was cut before, where it had come to that length.
-use Rattle.std.proofs.Common.{◌<◌, ◌∙◌, List, length, inl, refl, sym, ap, subst}
+use Rattle.std.proofs.Common.{◌≡◌, ◌-◌, ◌<◌, ◌∙◌, List, length, inl, refl, sym, ap, subst, arith}
 use Rattle.balancer_core.specs.Journal.{Journal}
 use Rattle.balancer_core.specs.PlainDesks.{AreLegal}
 use Rattle.locked_balancer.specs.Holds.{AreShort, CutsFirst, HoldCommands, HoldRefuses, LockedState, held}
@@ -15,8 +15,8 @@ invariant_of-self-2 g c =
     let legal = subst (λ (xs : List Journal). AreLegal xs) c.audit-2.ensures.same c.audit-2.ensures.named.sound in (
       c.self-2.invariant.0,
       subst (λ (xs : List Journal). AreShort c.self-2.inside.cut_at xs) (sym c.audit-2.ensures.same)
-          (short_command g.L.SiteName.sizes c.self-2.inside.cut_at (held c.self-2.inside.site c.args.receipts.now.items c.audit.new.share.amount)
-          (held c.command_in-done.new.site c.command_in-done.new.receipts.items c.command_in-done.new.share.amount) c.args.on.lb c.args.on.session c.args.on.at c.args.command.now c.command_in-done.result
+          (short_command g.L.SiteName.sizes c.self-2.inside.cut_at (held c.self-2.inside.site c.args.account.now.receipts.items c.audit.new.share.amount)
+          (held c.command_in-done.new.site c.command_in-done.new.account.receipts.items c.command_in-done.new.account.share.amount) c.args.on.lb c.args.on.session c.args.on.at c.args.command.now c.command_in-done.result
           c.self-2.invariant.1 shorter c.command_in-done.ensures.ok c.command_in-done.ensures.err legal),
     )
 
@@ -27,7 +27,7 @@ returns-in-Err-clause-err g c =
       c.args.self.now.books,
       refl,
       subst (λ (xs : List Journal). AreSited g.L.SiteName.sizes g.L.SiteName.firsts xs) site_is c.audit.ensures.named,
-      due_none c.args.self.now.books c.cut_first.new.self.books c.args.receipts.now.items c.args.share.now.amount c.audit.new.share.amount c.args.on.lb c.args.on.session c.args.on.at _ _
+      due_none c.args.self.now.books c.cut_first.new.self.books c.args.account.now.receipts.items c.args.account.now.share.amount c.audit.new.share.amount c.args.on.lb c.args.on.session c.args.on.at _ _
           (ap (λ (s : LockedState). s.books) c.in-Err.ensures.err ∙ site_is) c.audit.ensures.amount within refl,
     )
 
@@ -48,8 +48,8 @@ returns-clause-ok g c =
       cuts,
       c.in-Ok.ensures.sited.1,
       held_moved (λ old new. HoldCommands g.L.SiteName.sizes old new c.args.on.lb c.args.on.session c.args.on.at c.args.command.now)
-          c.self-2.inside.site c.cut_first.new.self.books c.command_in-done.new.site c.audit-2.new.self c.args.receipts.now.items c.command_in-done.new.receipts.items
-          c.audit.new.share.amount c.args.share.now.amount c.command_in-done.new.share.amount c.audit-2.new.share.amount mid_is c.audit.ensures.amount
+          c.self-2.inside.site c.cut_first.new.self.books c.command_in-done.new.site c.audit-2.new.self c.args.account.now.receipts.items c.command_in-done.new.account.receipts.items
+          c.audit.new.share.amount c.args.account.now.share.amount c.command_in-done.new.account.share.amount c.audit-2.new.share.amount mid_is c.audit.ensures.amount
           (sym c.audit-2.ensures.same) (sym c.audit-2.ensures.amount) is,
     )) c.command_in-done.ensures.ok
 
@@ -64,7 +64,12 @@ returns-clause-err g c =
       cuts,
       c.in-Ok.ensures.sited.1,
       held_moved (λ old new. HoldRefuses old new c.args.on.lb c.args.on.session c.args.on.at c.args.command.now e)
-          c.self-2.inside.site c.cut_first.new.self.books c.command_in-done.new.site c.audit-2.new.self c.args.receipts.now.items c.command_in-done.new.receipts.items
-          c.audit.new.share.amount c.args.share.now.amount c.command_in-done.new.share.amount c.audit-2.new.share.amount mid_is c.audit.ensures.amount
+          c.self-2.inside.site c.cut_first.new.self.books c.command_in-done.new.site c.audit-2.new.self c.args.account.now.receipts.items c.command_in-done.new.account.receipts.items
+          c.audit.new.share.amount c.args.account.now.share.amount c.command_in-done.new.account.share.amount c.audit-2.new.share.amount mid_is c.audit.ensures.amount
           (sym c.audit-2.ensures.same) (sym c.audit-2.ensures.amount) is,
     )) c.command_in-done.ensures.err
+
+pub returns-in-Err-clause-news : goal.returns-in-Err-clause-news
+returns-in-Err-clause-news g c =
+    let none : 0 ≡ length c.args.account.now.receipts.items - length c.args.account.now.receipts.items = omega arith in
+    (ap (λ (s : LockedState). s.lb) c.in-Err.ensures.err, ap (λ (s : LockedState). s.count) c.in-Err.ensures.err ∙ none)

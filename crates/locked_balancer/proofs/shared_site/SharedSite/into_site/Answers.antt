@@ -8,7 +8,6 @@ use Rattle.balancer_core.specs.Journal.{Journal}
 use Rattle.locked_balancer.specs.Seats.{AreApart, IsClaim}
 use Rattle.locked_balancer.specs.declared.view.Claim.{Claim}
 use Rattle.locked_balancer.specs.Histories.{IsSiteHistory, SeatNote}
-use Rattle.locked_balancer.specs.Holds.{LockedState}
 use Rattle.locked_balancer.proofs.LeftLaws.{claim_of, closed_by, joined_more, no_seats}
 use Rattle.locked_balancer.proofs.shared_site.SharedSite.into_site.Goals as goal
 
@@ -64,6 +63,6 @@ returns g c =
     let all : I.done ≡ c.args.seats = sym (append-nil I.done) ∙ ap (λ (ss : List SeatNote). I.done ++ ss) (sym none) ∙ I.split in
     let claims = ap (λ m. m.0.claims) I.joined ∙ ap (λ (ss : List SeatNote). record { number = I.number; seen = [] } ∷ map claim_of ss) all in
     closed_by g.L.SiteName.starts c.into_site.result c.close.ensures.log (record { number = I.number; seen = [] }) c.args.seats
-    (subst (λ (bs : List Journal). IsSiteHistory g.L.SiteName.starts c.close.ensures.log bs) (sym (c.into_site.ensures ∙ ap (λ (l : LockedState). l.books) c.into_locked.ensures)) c.close.ensures.told)
+    (subst (λ (bs : List Journal). IsSiteHistory g.L.SiteName.starts c.close.ensures.log bs) (sym c.into_site.ensures) c.close.ensures.told)
     (subst (λ (cs : List (Claim (ℕ × Entry))). (k : ℕ) (x : Claim (ℕ × Entry)) → get_elem? cs k ≡ some x → IsClaim c.close.ensures.log x) claims c.close.ensures.true_of)
     (subst (λ (cs : List (Claim (ℕ × Entry))). AreApart cs) claims c.close.ensures.apart)

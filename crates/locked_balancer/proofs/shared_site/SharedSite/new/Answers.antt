@@ -1,5 +1,5 @@
 -- A Site whose Books have no entry is at the start of its history.
-use Rattle.std.proofs.Common.{◌≡◌, List, [], subst, sym, ap, ◌∙◌}
+use Rattle.std.proofs.Common.{◌≡◌, List, [], subst, sym, ap}
 use Rattle.balancer_core.specs.Journal.{Journal}
 use Rattle.locked_balancer.specs.Histories.{IsSiteHistory}
 use Rattle.locked_balancer.specs.Holds.{LockedState}
@@ -8,6 +8,6 @@ use Rattle.locked_balancer.proofs.shared_site.SharedSite.new.Goals as goal
 
 pub open-requires : goal.open-requires
 open-requires g c =
-    let books : c.new-2.result.locked.books ≡ c.args.site = ap (λ (l : LockedState). l.books) (c.new-2.ensures ∙ c.new.ensures) in
+    let books : c.new.result.books ≡ c.args.site = ap (λ (l : LockedState). l.books) c.new.ensures in
     subst (λ (bs : List Journal). IsSiteHistory g.L.SiteName.starts [] bs) (sym books)
     (begun_history g.L.SiteName.sizes g.L.SiteName.firsts g.L.SiteName.starts c.args.site c.count.ensures.named c.requires.starts c.requires.fresh)

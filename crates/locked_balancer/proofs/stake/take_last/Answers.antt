@@ -3,7 +3,7 @@ use Rattle.std.proofs.Common.{ℕ, List, sym, ◌∙◌, subst, ap, add-one, ◌
 use Rattle.std.specs.Prelude.{Some, None}
 use Rattle.locked_balancer.specs.SharedDesks.{IsLastPlace}
 use Rattle.locked_balancer.proofs.SharedLaws.{without_last-at, without_last-none}
-use Rattle.locked_balancer.proofs.at_site.take_last.Goals as goal
+use Rattle.locked_balancer.proofs.stake.take_last.Goals as goal
 
 pub returns-in-Some-clause-held : goal.returns-in-Some-clause-held
 returns-in-Some-clause-held c =

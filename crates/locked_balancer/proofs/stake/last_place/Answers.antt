@@ -2,7 +2,7 @@
 use Rattle.std.proofs.Common.{◌≡◌, ◌+◌, ◌-◌, ◌<◌, ℕ, suc, false, length, drop, sym, ◌∙◌, subst, arith}
 use Rattle.balancer_core.specs.Desks.{holds}
 use Rattle.locked_balancer.proofs.SharedLaws.{holds_all, holds_drop}
-use Rattle.locked_balancer.proofs.at_site.last_place.Goals as goal
+use Rattle.locked_balancer.proofs.stake.last_place.Goals as goal
 
 pub loop-back-init : goal.loop-back-init
 loop-back-init c = holds_all c.args.held.now c.args.pair (length c.args.held.now - 0) (omega arith)
