@@ -1,6 +1,7 @@
 -- Gears that were given logs.
-use Rattle.std.proofs.Common.{ℕ, ◌≡◌, ◌+◌, ◌≤◌, List, [], ◌∷◌, ◌++◌, length, map, Option, Some, refl, sym, ap, subst, ◌∙◌, arith}
+use Rattle.std.proofs.Common.{ℕ, zero, suc, ◌≡◌, ◌+◌, ◌<◌, ◌≤◌, List, [], ◌∷◌, ◌++◌, length, map, take, get_or, set, Option, Some, refl, sym, ap, subst, ◌∙◌, append_assoc, arith}
 use Rattle.std.specs.List.{All}
+use Rattle.std.proofs.lemmas.List.{append-nil, map-append, take_all}
 use Rattle.std.proofs.lemmas.List.Elements.{All-cons, All-head, All-nil, All-tail}
 use Rattle.gear_parts.specs.Gears.{AreLogged, logged, unlogged}
 use Rattle.gear_parts.specs.Putting.{PutsOne}
@@ -23,12 +24,51 @@ log_on {O} Is number logs more suited place put =
     subst (λ (items : List O). AreSuited Is 0 items) (sym put.added)
     (suited_and Is 0 logs put.item suited (subst (λ (n : ℕ). Is n put.item) at put.is))
 
--- what a gear that was given a log has
-pub rest_given : {D G T K S O : Type 0} (b a : Gear D G T K S O) (log : O) → a ≡ logged b log → unlogged a ≡ unlogged b
-rest_given {D} {G} {T} {K} {S} {O} b a log is = ap (λ (x : Gear D G T K S O). unlogged x) is
+-- What stands at a place of a list was changed.
+take_set : {X : Type 0} (xs : List X) (i : ℕ) (x : X) → i < length xs → take (suc i) (set xs i x) ≡ take i xs ++ x ∷ []
+take_set [] i x lt = absurd (omega (arith, lt))
+take_set (y ∷ xs) zero x lt = refl
+take_set {X} (y ∷ xs) (suc i) x lt = ap (λ (zs : List X). y ∷ zs) (take_set xs i x (omega (arith, lt)))
 
-pub log_given : {D G T K S O : Type 0} (b a : Gear D G T K S O) (log : O) → a ≡ logged b log → a.log ≡ Some log
-log_given {D} {G} {T} {K} {S} {O} b a log is = ap (λ (x : Gear D G T K S O). x.log) is
+pub as_long_set : {X : Type 0} (xs : List X) (i : ℕ) (x : X) → length (set xs i x) ≡ length xs
+as_long_set [] i x = refl
+as_long_set (y ∷ xs) zero x = refl
+as_long_set (y ∷ xs) (suc i) x = omega (arith, as_long_set xs i x)
+
+-- A gear that was given a log keeps all else.
+rest_set : {D G T K S O : Type 0} (gears : List (Gear D G T K S O)) (i : ℕ) (d a : Gear D G T K S O) → unlogged a ≡ unlogged (get_or gears i d)
+    → map unlogged (set gears i a) ≡ map unlogged gears
+rest_set [] i d a same = refl
+rest_set {D} {G} {T} {K} {S} {O} (g ∷ gears) zero d a same = ap (λ (x : Gear D G T K S O). x ∷ map unlogged gears) same
+rest_set {D} {G} {T} {K} {S} {O} (g ∷ gears) (suc i) d a same = ap (λ (xs : List (Gear D G T K S O)). unlogged g ∷ xs) (rest_set gears i d a same)
+
+pub rest_put : {D G T K S O : Type 0} (gears : List (Gear D G T K S O)) (i : ℕ) (d a : Gear D G T K S O) (log : O) (first : List (Gear D G T K S O))
+    → map unlogged gears ≡ map unlogged first → a ≡ logged (get_or gears i d) log → map unlogged (set gears i a) ≡ map unlogged first
+rest_put {D} {G} {T} {K} {S} {O} gears i d a log first same is =
+    rest_set gears i d a (ap (λ (x : Gear D G T K S O). unlogged x) is) ∙ same
+
+-- It has this log, the next after those of the gears before it.
+pub log_put : {D G T K S O : Type 0} (gears : List (Gear D G T K S O)) (i : ℕ) (d a : Gear D G T K S O) (log : O) (rest later : List O) (all : List (Option O))
+    → i < length gears → map (λ (x : Gear D G T K S O). x.log) (take i gears) ++ map Some rest ≡ all → rest ≡ log ∷ later → a ≡ logged (get_or gears i d) log
+    → map (λ (x : Gear D G T K S O). x.log) (take (i + 1) (set gears i a)) ++ map Some later ≡ all
+log_put {D} {G} {T} {K} {S} {O} gears i d a log rest later all lt so_far cut is =
+    let next : i + 1 ≡ suc i = omega arith in
+    let here : a.log ≡ Some log = ap (λ (x : Gear D G T K S O). x.log) is in
+    ap (λ (n : ℕ). map (λ (x : Gear D G T K S O). x.log) (take n (set gears i a)) ++ map Some later) next
+    ∙ ap (λ (xs : List (Gear D G T K S O)). map (λ (x : Gear D G T K S O). x.log) xs ++ map Some later) (take_set gears i a lt)
+    ∙ ap (λ (ls : List (Option O)). ls ++ map Some later) (map-append (λ (x : Gear D G T K S O). x.log) (take i gears) (a ∷ []))
+    ∙ append_assoc (map (λ (x : Gear D G T K S O). x.log) (take i gears)) (a.log ∷ []) (map Some later)
+    ∙ ap (λ (l : Option O). map (λ (x : Gear D G T K S O). x.log) (take i gears) ++ l ∷ map Some later) here
+    ∙ ap (λ (ls : List O). map (λ (x : Gear D G T K S O). x.log) (take i gears) ++ map Some ls) (sym cut)
+    ∙ so_far
+
+-- All have their logs, and none is left.
+pub all_have : {D G T K S O : Type 0} (gears : List (Gear D G T K S O)) (i : ℕ) (rest : List O) (all : List (Option O)) → length gears ≤ i
+    → map (λ (x : Gear D G T K S O). x.log) (take i gears) ++ map Some rest ≡ all → length rest ≡ 0 → map (λ (x : Gear D G T K S O). x.log) gears ≡ all
+all_have {D} {G} {T} {K} {S} {O} gears i [] all whole so_far none =
+    ap (λ (xs : List (Gear D G T K S O)). map (λ (x : Gear D G T K S O). x.log) xs) (sym (take_all i gears whole))
+    ∙ sym (append-nil (map (λ (x : Gear D G T K S O). x.log) (take i gears))) ∙ so_far
+all_have gears i (log ∷ rest) all whole so_far none = absurd (omega (arith, none))
 
 -- a gear by what it has but for its log, and by its log
 pub logged_so : {D G T K S O : Type 0} (b a : Gear D G T K S O) (log : O) → unlogged a ≡ unlogged b → a.log ≡ Some log → a ≡ logged b log

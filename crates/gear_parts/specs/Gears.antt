@@ -30,6 +30,10 @@ logged gear log = record gear { log = Some log }
 abbrev pub unlogged : {D G T K S O : Type 0} → Gear D G T K S O → Gear D G T K S O
 unlogged gear = record gear { log = None }
 
+-- A gear was given the next of these logs.
+abbrev pub TakesLog : {D G T K S O : Type 0} → (before after : Gear D G T K S O) → (logs later : List O) → Type 0
+TakesLog {O = O} before after logs later = (log : O) × (logs ≡ log ∷ later) × (after ≡ logged before log)
+
 -- Each gear was given the log of the worker of its place, the first of which has this number.
 abbrev pub AreLogged : {D G T K S O : Type 0} → (Is : ℕ → O → Type 0) → (number : ℕ) → (before after : List (Gear D G T K S O)) → Type 0
 AreLogged Is number [] [] = Unit {0}

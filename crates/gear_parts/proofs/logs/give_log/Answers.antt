@@ -1,10 +1,5 @@
+use Rattle.std.proofs.Common.{refl}
 use Rattle.gear_parts.proofs.logs.give_log.Goals as goal
 
-pub returns-clause-put : goal.returns-clause-put
-returns-clause-put g c = record {
-  next = _;
-  item = _;
-  taken = c.in-Some.ensures.cases.0;
-  added = c.push_reserved.ensures.items;
-  is = c.with_log.ensures;
-}
+pub returns : goal.returns
+returns g c = (_, c.in-Some.ensures.cases.0, refl)

@@ -6,15 +6,15 @@ use Rattle.gear_parts.proofs.logs.log_gears.Goals as goal
 
 pub returns-in-Ok-clause-given : goal.returns-in-Ok-clause-given
 returns-in-Ok-clause-given g c =
-    rw c.in-Some.is (are_logged _ 0 _ _ _ c.all_logged.ensures.rest c.all_logged.ensures.logs c.in-Ok.ensures.suited)
+    rw c.in-Some.is (are_logged _ 0 _ _ _ c.with_logs.ensures.rest c.with_logs.ensures.logs c.in-Ok.ensures.suited)
 
 pub returns-in-Ok-clause-idle : goal.returns-in-Ok-clause-idle
-returns-in-Ok-clause-idle g c = λ all. idle_kept g.W.T.Tape.is_idle _ _ c.all_logged.ensures.rest all
+returns-in-Ok-clause-idle g c = λ all. idle_kept g.W.T.Tape.is_idle _ _ c.with_logs.ensures.rest all
 
 pub returns-in-Ok-clause-len : goal.returns-in-Ok-clause-len
 returns-in-Ok-clause-len g c =
-    let same = as_long _ _ _ _ c.all_logged.ensures.rest in
-    omega (arith, same, c.requires.count, c.args.gears.ok.0, c.all_logged.result.ok.0)
+    let same = as_long _ _ _ _ c.with_logs.ensures.rest in
+    omega (arith, same, c.requires.count, c.args.gears.ok.0, c.with_logs.result.ok.0)
 
 pub returns-in-Ok-clause-cause : goal.returns-in-Ok-clause-cause
 returns-in-Ok-clause-cause g c = no_cause _ _ _ (c.in-Ok.ensures.steady refl)
