@@ -1,6 +1,5 @@
 //! What gears are ordered for.
-ghost use Rattle.std.specs.Prelude.{◌≡◌, IsSome, None, Some};
-ghost use Rattle.std.specs.Option.{option_copied};
+ghost use Rattle.std.specs.Prelude.{◌≡◌, None};
 ghost use Rattle.gear_parts.specs.Wants.{container_wants, wants_of};
 
 use jk_io::{Bytes, ClientLimits};
@@ -47,23 +46,6 @@ impl<'a> GearOrder<'a> {
             },
             control: None,
             grace: 0,
-        }
-    }
-
-    /// The same order, for the gears of this site.
-    pub fn over(self, cfg: &'a Config) -> GearOrder<'a>
-        ensures same { wants_of result ≡ wants_of self.entry }
-        ensures site { (option_copied result.cfg ≡ Some cfg.now) × IsSome result.cfg }
-    {
-        GearOrder {
-            address: self.address,
-            clients: self.clients,
-            journal: self.journal,
-            log: self.log,
-            cfg: Some(cfg),
-            limits: self.limits,
-            control: self.control,
-            grace: self.grace,
         }
     }
 }
