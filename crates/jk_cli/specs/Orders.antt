@@ -5,6 +5,7 @@ use Rattle.std.specs.Str.{bytes_eq, is_utf8}
 use Rattle.jk_io.specs.Decimals.{decimal_of}
 use Rattle.jk_io.specs.declared.client_limits.ClientLimits.{ClientLimits}
 use Rattle.jk_cli.specs.declared.order.Order.{Order}
+use Rattle.jk_cli.specs.declared.order.ServeOrder.{ServeOrder}
 use Rattle.jk_cli.specs.declared.order.Order.TheVariants.{Play, Dry, Config, Match, Check, Log, Follow, Drill, Serve, Container, Stop, Demo}
 use Rattle.jk_cli.specs.declared.name.CommandName.{CommandName}
 use Rattle.jk_cli.specs.declared.name.CommandName.TheVariants as name
@@ -35,6 +36,10 @@ number_or name least most default parts = option_map (λ given. unwrap_or given 
 -- 1 to 64
 abbrev pub threads_of : List ℕ → Option ℕ
 threads_of text = number_in 1 64 text
+
+-- 1 to 1,000,000
+abbrev pub requests_of : List ℕ → Option ℕ
+requests_of text = number_in 1 1000000 text
 
 -- any number of 64 bits
 abbrev pub clients_of : List Part → Option (Option ℕ)
@@ -149,17 +154,35 @@ drill_of (seed ∷ threads ∷ requests ∷ more) =
     mode_of more >>= λ mode.
     decimal_of seed >>= λ start.
     threads_of threads >>= λ count.
-    number_in 1 1000000 requests >>= λ total.
+    requests_of requests >>= λ total.
     Some (Drill start count total mode.0 mode.1)
 drill_of places = None
+
+-- what `serve` is asked for by its words and its options
+abbrev pub serve_order_of : (workers map address : List ℕ) → (threads : ℕ) → ServeOptions → FrontOptions → ServeOrder
+serve_order_of workers map address threads given front = record {
+  workers = workers;
+  map = map;
+  address = address;
+  threads = threads;
+  clients = given.clients;
+  journal = given.journal;
+  watch = given.watch;
+  idle = given.idle;
+  log = given.log;
+  format = given.format;
+  cut = front.cut;
+  limits = front.limits;
+  control = front.control;
+  grace = front.grace;
+}
 
 abbrev pub serve_by : List Part → (workers map address threads : List ℕ) → Option Order
 serve_by parts workers map address threads =
     threads_of threads >>= λ count.
     serve_options parts >>= λ given.
     front_options parts >>= λ front.
-    Some (Serve workers map address count given.clients given.journal given.watch given.idle given.log given.format
-    front.cut front.limits front.control front.grace)
+    Some (Serve (serve_order_of workers map address count given front))
 
 -- serve WORKERS MAP ADDRESS THREADS
 abbrev pub serve_of : List Part → List (List ℕ) → Option Order

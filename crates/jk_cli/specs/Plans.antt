@@ -10,7 +10,7 @@ use Rattle.jk_cli.specs.declared.plan.LogPlan.{LogPlan}
 use Rattle.jk_cli.specs.declared.plan.ServePlan.{ServePlan}
 use Rattle.jk_cli.specs.declared.plan.Front.{Front}
 use Rattle.jk_cli.specs.declared.plan.ContainerPlan.{ContainerPlan}
-use Rattle.jk_cli.specs.Orders.{FrontOptions, ServeOptions}
+use Rattle.jk_cli.specs.Orders.{serve_order_of, FrontOptions, ServeOptions}
 
 abbrev pub options_in : Options → ServeOptions
 options_in given = record {
@@ -30,13 +30,10 @@ log_order p = order.Log p.format.now p.request.now p.reply.now p.workers.now p.m
 
 abbrev pub serve_order : ServePlan → Order
 serve_order p =
-    let given = options_in p.given in
-    let front = front_in p.front in
-    order.Serve p.workers.now p.map.now p.address.now p.threads given.clients given.journal given.watch given.idle given.log given.format
-    front.cut front.limits front.control front.grace
+    order.Serve (serve_order_of p.workers.now p.map.now p.address.now p.threads (options_in p.given) (front_in p.front))
 
 abbrev pub container_order : ContainerPlan → Order
-container_order p = order.Container p.route.now p.address.now p.threads p.clients
+container_order p = order.Container p.route p.address.now p.threads p.clients
 
 abbrev pub order_in : Plan → Order
 order_in plan.Play = order.Play

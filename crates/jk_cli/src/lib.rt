@@ -15,10 +15,14 @@ mod part;
 mod places;
 mod plan;
 mod plans;
+mod ranges;
 mod reading;
 mod values;
 
 pub use help::{command, usage_of};
 pub use name::{CommandName, name_of};
-pub use order::{Order, WordsError};
+pub use order::{Order, ServeOrder, WordsError};
+pub use ranges::{
+    ContainerRoute, DrillRequests, MOST_REQUESTS, MOST_ROUTE_BYTES, MOST_THREADS, ThreadCount,
+};
 pub use reading::{command_of, read_words};

@@ -1,6 +1,36 @@
 //! What the words can ask for.
+use crate::ranges::{ContainerRoute, DrillRequests, ThreadCount};
 use jk_io::{Bytes, ClientLimits, NoMemory};
 use thiserror::Error;
+
+/// What `serve` is asked for.
+#[derive(Drop)]
+pub struct ServeOrder {
+    pub workers: Bytes,
+    pub map: Bytes,
+    pub address: Bytes,
+    pub threads: ThreadCount,
+    /// Each worker thread ends after this many clients.
+    pub clients: Option<u64>,
+    /// The directory of the journals.
+    pub journal: Option<Bytes>,
+    /// Seconds from one look through the idle links to the next, 1 to 86,400.
+    pub watch: Option<u64>,
+    /// Looks after which an idle link is closed, 1 to 1,000,000; given only with `watch`.
+    pub idle: Option<u32>,
+    /// The directory of the request logs.
+    pub log: Option<Bytes>,
+    /// The format of their lines; given only with `log`.
+    pub format: Option<Bytes>,
+    /// The most entries of a balancer that a kill may lose, 1 to 65,536; fewer than 4 as 4.
+    pub cut: Option<u64>,
+    /// What its clients may take.
+    pub limits: ClientLimits,
+    /// The path of the socket by which it is told to end.
+    pub control: Option<Bytes>,
+    /// The most seconds for the requests under way once it is told to end.
+    pub grace: u64,
+}
 
 /// What a command line asks for. Names of files are bytes as they were written.
 #[derive(Drop)]
@@ -41,50 +71,20 @@ pub enum Order {
     /// `drill SEED THREADS REQUESTS`, or these and `journal` or `passes`.
     Drill {
         seed: u64,
-        /// 1 to 64.
-        threads: u32,
-        /// 1 to 1,000,000.
-        requests: u64,
+        threads: ThreadCount,
+        requests: DrillRequests,
         /// Whether the journal's text is printed, and not the summary.
         text: bool,
         /// Whether the threads share a book of passes.
         passes: bool,
     },
     /// `serve WORKERS MAP ADDRESS THREADS`.
-    Serve {
-        workers: Bytes,
-        map: Bytes,
-        address: Bytes,
-        /// 1 to 64.
-        threads: u32,
-        /// Each worker thread ends after this many clients.
-        clients: Option<u64>,
-        /// The directory of the journals.
-        journal: Option<Bytes>,
-        /// Seconds from one look through the idle links to the next, 1 to 86,400.
-        watch: Option<u64>,
-        /// Looks after which an idle link is closed, 1 to 1,000,000; given only with `watch`.
-        idle: Option<u32>,
-        /// The directory of the request logs.
-        log: Option<Bytes>,
-        /// The format of their lines; given only with `log`.
-        format: Option<Bytes>,
-        /// The most entries of a balancer that a kill may lose, 1 to 65,536; fewer than 4 as 4.
-        cut: Option<u64>,
-        /// What its clients may take.
-        limits: ClientLimits,
-        /// The path of the socket by which it is told to end.
-        control: Option<Bytes>,
-        /// The most seconds for the requests under way once it is told to end.
-        grace: u64,
-    },
+    Serve(ServeOrder),
     /// `container ROUTE ADDRESS THREADS`.
     Container {
-        /// At most 1,024 bytes.
-        route: Bytes,
+        route: ContainerRoute,
         address: Bytes,
-        /// 1 to 64.
-        threads: u32,
+        threads: ThreadCount,
         /// Each worker thread ends after this many clients.
         clients: Option<u64>,
     },

@@ -6,7 +6,8 @@ ghost use Rattle.jk_cli.specs.declared.order.Order.TheVariants as orders;
 ghost use Rattle.jk_cli.specs.Plans.{log_order, serve_order, container_order, order_in};
 
 use crate::name::CommandName;
-use crate::order::Order;
+use crate::order::{Order, ServeOrder};
+use crate::ranges::{DrillRequests, RouteWord, ThreadCount};
 use jk_io::{Bytes, ClientLimits, NoMemory};
 use std::alloc::Global;
 
@@ -46,22 +47,22 @@ pub(crate) struct ServePlan<'a> {
     pub workers: &'a [u8],
     pub map: &'a [u8],
     pub address: &'a [u8],
-    pub threads: u32,
+    pub threads: ThreadCount,
     pub given: Options<'a>,
     pub front: Front<'a>,
 }
 
 /// An order `container`.
-#[derive(Clone, Copy)]
+#[derive(Drop)]
 pub(crate) struct ContainerPlan<'a> {
-    pub route: &'a [u8],
+    pub route: RouteWord<'a>,
     pub address: &'a [u8],
-    pub threads: u32,
+    pub threads: ThreadCount,
     pub clients: Option<u64>,
 }
 
 /// An order whose texts still stand in the words.
-#[derive(Clone, Copy)]
+#[derive(Drop)]
 pub(crate) enum Plan<'a> {
     Play,
     Dry {
@@ -83,8 +84,8 @@ pub(crate) enum Plan<'a> {
     Follow,
     Drill {
         seed: u64,
-        threads: u32,
-        requests: u64,
+        threads: ThreadCount,
+        requests: DrillRequests,
         text: bool,
         passes: bool,
     },
@@ -211,7 +212,7 @@ impl ServePlan<'_> {
         let texts = own_given(alloc, given)?;
         let control = own(alloc, front.control)?;
         let (workers, map) = own_pair(alloc, self.workers, self.map)?;
-        Ok(Order::Serve {
+        Ok(Order::Serve(ServeOrder {
             workers,
             map,
             address: Bytes::from_slice(alloc, self.address)?,
@@ -226,7 +227,7 @@ impl ServePlan<'_> {
             limits: front.limits,
             control,
             grace: front.grace,
-        })
+        }))
     }
 }
 
@@ -235,7 +236,7 @@ impl ContainerPlan<'_> {
         ensures { IfOk result (λ order. order ≡ container_order self.entry) }
     {
         Ok(Order::Container {
-            route: Bytes::from_slice(alloc, self.route)?,
+            route: self.route.route(alloc)?,
             address: Bytes::from_slice(alloc, self.address)?,
             threads: self.threads,
             clients: self.clients,

@@ -29,15 +29,10 @@ use crate::name::{CommandName, all_may_stand, name_of};
 use crate::part::is;
 use crate::places::{Places, flag_in};
 use crate::plan::{ContainerPlan, LogPlan, Plan, ServePlan};
-use crate::values::{clients_of, front_options, number_in, serve_options, threads_of};
+use crate::ranges::RouteWord;
+use crate::values::{clients_of, front_options, requests_of, serve_options, threads_of};
 use jk_io::{Bytes, parse_decimal};
 use std::str;
-
-/// The most requests of a drill.
-const MOST_REQUESTS: u64 = 1_000_000;
-
-/// The most bytes of a container's route.
-const MOST_ROUTE_BYTES: usize = 1_024;
 
 fn play_of<'a>(places: &mut Places<'a>) -> Option<Plan<'a>>
     ensures { option_map order_in result ≡ play_of places.old }
@@ -156,7 +151,7 @@ fn drill_of<'a>(places: &mut Places<'a>) -> Option<Plan<'a>>
     Some(Plan::Drill {
         seed: parse_decimal(seed)?,
         threads: threads_of(threads)?,
-        requests: number_in(1, MOST_REQUESTS, requests)?,
+        requests: requests_of(requests)?,
         text,
         passes,
     })
@@ -204,11 +199,8 @@ fn container_of<'a>(words: &'a [Bytes], places: &mut Places<'a>) -> Option<Plan<
     places.end()?;
     let threads = threads_of(threads)?;
     let clients = clients_of(words)?;
-    if route.len() > MOST_ROUTE_BYTES {
-        return None;
-    }
     Some(Plan::Container(ContainerPlan {
-        route,
+        route: RouteWord::of(route)?,
         address,
         threads,
         clients,

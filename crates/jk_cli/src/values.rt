@@ -2,15 +2,13 @@
 ghost use Rattle.std.specs.Prelude.{◌≡◌, ◌≤◌, IfSome, option_map, codes};
 ghost use Rattle.std.specs.Option.{option_copied};
 ghost use Rattle.jk_cli.specs.Parts.{parts_of};
-ghost use Rattle.jk_cli.specs.Orders.{are_together, clients_of, front_options, limits_given, number_given, number_in, number_option, number_or, options_given, serve_options, threads_of};
+ghost use Rattle.jk_cli.specs.Orders.{are_together, clients_of, front_options, limits_given, number_given, number_in, number_option, number_or, options_given, requests_of, serve_options, threads_of};
 ghost use Rattle.jk_cli.specs.Plans.{front_in, options_in};
 
 use crate::places::option_in;
 use crate::plan::{Front, Options};
+use crate::ranges::{DrillRequests, MOST_REQUESTS, MOST_THREADS, ThreadCount};
 use jk_io::{Bytes, ClientLimits, parse_decimal};
-
-/// The most threads of a program.
-const MOST_THREADS: u64 = 64;
 
 /// The most seconds from one look through the idle links to the next: a day.
 const MOST_WATCH_SECONDS: u64 = 86_400;
@@ -33,7 +31,7 @@ const MOST_IDLE_ROUNDS: u64 = 1_000_000;
 /// A decimal number of a range.
 pub(crate) fn number_in(least: u64, most: u64, text: &[u8]) -> Option<u64>
     ensures value { result ≡ number_in least most text.now }
-    ensures small { IfSome result (λ n. n ≤ most) }
+    ensures range { IfSome result (λ n. (least ≤ n) × (n ≤ most)) }
 {
     let number = parse_decimal(text)?;
     if least <= number && number <= most {
@@ -61,11 +59,19 @@ fn number_option(words: &[Bytes], name: &[u8], least: u64, most: u64) -> Option<
 }
 
 /// A number of threads.
-pub(crate) fn threads_of(text: &[u8]) -> Option<u32>
+pub(crate) fn threads_of(text: &[u8]) -> Option<ThreadCount>
     ensures { result ≡ threads_of text.now }
 {
-    let threads = number_in(1, MOST_THREADS, text)?;
-    Some(threads as u32)
+    let threads = number_in(1, u64::from(MOST_THREADS), text)?;
+    Some(ThreadCount::new(threads as u32))
+}
+
+/// A number of requests of a drill.
+pub(crate) fn requests_of(text: &[u8]) -> Option<DrillRequests>
+    ensures { result ≡ requests_of text.now }
+{
+    let requests = number_in(1, u64::from(MOST_REQUESTS), text)?;
+    Some(DrillRequests::new(requests as u32))
 }
 
 /// The option `--clients`.

@@ -1,17 +1,14 @@
 -- How a command that asks for workers or threads ends.
-use Rattle.std.proofs.Common.{ℕ, ◌≡◌, ◌≢◌, ◌⊎◌, Bool, true, false, List, [], ◌∷◌, Option, Some, None, inl, inr, refl, sym, ◌∙◌, subst, arith}
+use Rattle.std.proofs.Common.{ℕ, ◌≡◌, ◌≢◌, ◌⊎◌, true, false, ◌||◌, List, [], ◌∷◌, Result, Ok, inl, inr, refl, sym, ◌∙◌, arith}
 use Rattle.mini_container.specs.declared.worker_ends.ContainerWorker.{ContainerWorker}
 use Rattle.mini_container.specs.declared.worker_ends.ContainerWorker.TheVariants as container
-use Rattle.drill.specs.Written.{RunsDrill, Told, Lacked, Wanted}
-use Rattle.drill.specs.declared.writing.DrillEnd.{DrillEnd}
-use Rattle.drill.specs.declared.writing.DrillEnd.TheVariants as drilled
-use Rattle.jk_cli.specs.Orders.{order_of}
 use Rattle.jk_cli.specs.declared.order.Order.{Order}
 use Rattle.jk_cli.specs.declared.order.Order.TheVariants as order
+use Rattle.jk_cli.specs.declared.order.WordsError.{WordsError}
 use Rattle.jk_io.specs.Told.{Rose}
-use Rattle.jk_server.specs.Commands.{CommandSide, Formatted, format_text, NoFormat, RunsContainer, RunsLogged, Serves, ServesFiles, Unformatted, Unread, Refused, Served, Works, WritesLine, NoGear, NoRoom, Ran}
+use Rattle.jk_server.specs.Commands.{CommandSide, ContainsLinks, Formatted, NoFormat, RunsContainer, RunsLogged, Serves, ServesFiles, Unformatted, Unread, Refused, Served, Works, WritesLine, NoGear, NoRoom, Ran}
 use Rattle.jk_server.specs.Ends.{end_of_closing, end_of_container, end_of_run}
-use Rattle.gear_parts.specs.Wants.{container_wants, GearWants, wants}
+use Rattle.gear_parts.specs.Wants.{GearWants}
 use Rattle.gear_parts.specs.Worlds.{Tells, WorldSide}
 use Rattle.jk_server.specs.declared.orders.ends.CommandEnd.{CommandEnd}
 use Rattle.jk_server.specs.declared.orders.ends.CommandEnd.TheVariants as server
@@ -19,43 +16,14 @@ use Rattle.jk_server.specs.declared.part.WorkerEnd.{WorkerEnd}
 use Rattle.jk_server.specs.declared.part.WorkerEnd.TheVariants as worker
 use Rattle.jk_server.specs.declared.runs.ends.Closing.{Closing}
 use Rattle.jk_server.specs.declared.runs.ends.Closing.TheVariants as closing
-use Rattle.jk_server.proofs.CommandLaws.{contains_none}
-use Rattle.plain_commands.specs.Plain.{readings, AreFilesDue}
+use Rattle.plain_commands.specs.Plain.{is_plain, readings}
 use Rattle.request_log.specs.Formats.{refusal_line}
 use Rattle.request_log.specs.declared.format.Part.{Part as FormatPart}
 use Rattle.site_reports.specs.Readings.{CommandOutside, has_file}
-use Rattle.jk_commands.specs.Commands.{DoesOrder}
-use Rattle.jk_commands.specs.Ends.{jkd_end, of_drill}
-use Rattle.jk_commands.specs.Words.{is_command, is_served, is_served_order, is_serving, AreFilesRead, IsInRange, reads_files}
+use Rattle.jk_commands.specs.Ends.{jkd_end}
+use Rattle.jk_commands.specs.Orders.{is_served, IsNoCommand, reads_files}
 use Rattle.jk_commands.specs.declared.ends.EndOf.{EndOf}
 use Rattle.jk_commands.specs.declared.ends.EndOf.TheVariants as end
-
--- memory was wanted before the words were read
-pub does_none : {W G C S O X Z : Type 0} (L : Type 0) (told : Tells W G C S O X Z) (outside : CommandOutside) (o : Order) (s : CommandSide G) → is_served o ≡ true → IsInRange o
-    → DoesOrder {L = L} told outside o s s (end.Status 6)
-does_none L told outside (order.Serve workers map address threads clients journal watch idle log format cut limits control grace) s served range = record {
-  by = server.Status 6;
-  said = NoFormat (record { status = refl; unread = refl; written = refl; world = refl });
-  turned = refl;
-}
-does_none L told outside (order.Container route address threads clients) s served range = record {
-  by = server.Status 6;
-  said = record { contained = contains_none told route threads (container_wants address clients) s.world range.2; written = refl };
-  turned = refl;
-}
-does_none L told outside order.Play s served range = cc
-does_none L told outside (order.Dry request reply site) s served range = cc
-does_none L told outside (order.Config workers map) s served range = cc
-does_none L told outside (order.Match workers map verbose) s served range = cc
-does_none L told outside order.Check s served range = cc
-does_none L told outside (order.Log format request reply workers map) s served range = cc
-does_none L told outside order.Follow s served range = cc
-does_none L told outside (order.Stop path) s served range = cc
-does_none L told outside (order.Demo address) s served range = cc
-does_none L told outside (order.Drill seed threads requests text passes) s served range = record {
-  runs = record { by = drilled.NoMemory; said = Wanted (record { ends = refl; written = refl }); turned = refl };
-  world = refl;
-}
 
 -- ---- the statuses of a command that asks for workers or threads
 
@@ -135,65 +103,62 @@ served_status (server.Status status) k e = let same : status ≡ k = cc in rw sa
 served_status (server.Discord discord) k e = cc
 served_status (server.Stray stray) k e = cc
 
--- a drill's write failed only where the output's faults rose
-drill_lost : (seed threads requests : ℕ) (text passes : Bool) (sent sent_now : Option (List ℕ)) (faults faults_now : ℕ)
-    → RunsDrill seed threads requests text passes sent sent_now faults faults_now drilled.OutputFault → Rose faults faults_now
-drill_lost seed threads requests text passes sent sent_now faults faults_now (Told w) =
-    elim w.written [ inl a ↦ let ends = a.1 in cc | inr b ↦ elim b [ inl c ↦ c.2 | inr d ↦ let ends = d.1 in cc ] ]
-drill_lost seed threads requests text passes sent sent_now faults faults_now (Lacked w) = let ends = w.ends in cc
-drill_lost seed threads requests text passes sent sent_now faults faults_now (Wanted w) = let ends = w.ends in cc
-
-drill_status : {G : Type 0} (L : Type 0) (seed threads requests : ℕ) (text passes : Bool) (s n : CommandSide G) (by : DrillEnd) (k : ℕ)
-    → RunsDrill seed threads requests text passes s.sent n.sent s.output_faults n.output_faults by → of_drill {L = L} by ≡ end.Status k → Answered s n k
+-- a call of `serve` never ends with the status of words that are no command
+pub serve_done : {W G C S O X Z L : Type 0} (told : Tells W G C S O X Z) (outside : CommandOutside) (workers map text : List ℕ) (threads : ℕ) (wanted : GearWants) (s n : CommandSide G) (by : CommandEnd L) (ended : EndOf L)
+    → Serves told outside workers map text threads wanted s n by → ended ≡ jkd_end by → ended ≢ end.Status 2
 unfolding IsOfRun Answered
-drill_status L seed threads requests text passes s n drilled.Written k runs e = inl (inl cc)
-drill_status L seed threads requests text passes s n drilled.OutputFault k runs e = inr (inr (cc, drill_lost _ _ _ _ _ _ _ _ _ runs))
-drill_status L seed threads requests text passes s n drilled.NoMemory k runs e = inl (inr (inr cc))
-drill_status L seed threads requests text passes s n (drilled.Lacked error) k runs e = cc
-
-does_status : {W G C S O X Z L : Type 0} (told : Tells W G C S O X Z) (outside : CommandOutside) (o : Order) (s n : CommandSide G) (ended : EndOf L) (k : ℕ)
-    → DoesOrder told outside o s n ended → ended ≡ end.Status k → Answered s n k
-unfolding Answered
-does_status told outside (order.Serve workers map address threads clients journal watch idle log format cut limits control grace) s n ended k does e =
-    serve_status told outside workers map (format_text format) threads (wants address clients journal log limits control grace) s n does.by k does.said (served_status does.by k (sym does.turned ∙ e))
-does_status told outside (order.Container route address threads clients) s n ended k does e =
-    inl (works_status threads (RunsContainer told does.said.contained.app threads (container_wants address clients)) s.world n.world does.by k
-    (λ ran is. container_status _ ran.ends k (sym ran.status ∙ is)) does.said.contained.works (served_status does.by k (sym does.turned ∙ e)))
-does_status told outside order.Play s n ended k does e = absurd does
-does_status told outside (order.Dry request reply site) s n ended k does e = absurd does
-does_status told outside (order.Config workers map) s n ended k does e = absurd does
-does_status told outside (order.Match workers map verbose) s n ended k does e = absurd does
-does_status told outside order.Check s n ended k does e = absurd does
-does_status told outside (order.Log format request reply workers map) s n ended k does e = absurd does
-does_status told outside order.Follow s n ended k does e = absurd does
-does_status told outside (order.Stop path) s n ended k does e = absurd does
-does_status told outside (order.Demo address) s n ended k does e = absurd does
-does_status told outside (order.Drill seed threads requests text passes) s n ended k does e =
-    drill_status _ seed threads requests text passes s n does.runs.by k does.runs.said (sym does.runs.turned ∙ e)
-
--- it never ends with the status of words that are no command
-pub does_done : {W G C S O X Z L : Type 0} (told : Tells W G C S O X Z) (outside : CommandOutside) (o : Order) (s n : CommandSide G) (ended : EndOf L)
-    → DoesOrder told outside o s n ended → ended ≢ end.Status 2
-unfolding IsOfRun Answered
-does_done told outside o s n ended does e =
-    elim (does_status told outside o s n ended 2 does e) [
+serve_done told outside workers map text threads wanted s n by ended serves turned e =
+    elim (serve_status told outside workers map text threads wanted s n by 2 serves (served_status by 2 (sym turned ∙ e))) [
       | inl run ↦ elim run [ inl a ↦ omega (arith, a) | inr b ↦ elim b [ inl c ↦ omega (arith, c) | inr d ↦ omega (arith, d) ] ]
       | inr more ↦ elim more [ inl a ↦ omega (arith, a) | inr b ↦ omega (arith, b.0) ]
     ]
 
 -- it ends with status 5 only where the output's faults rose
-pub does_lose : {W G C S O X Z L : Type 0} (told : Tells W G C S O X Z) (outside : CommandOutside) (o : Order) (s n : CommandSide G) (ended : EndOf L)
-    → DoesOrder told outside o s n ended → ended ≡ end.Status 5 → Rose s.output_faults n.output_faults
+pub serve_lose : {W G C S O X Z L : Type 0} (told : Tells W G C S O X Z) (outside : CommandOutside) (workers map text : List ℕ) (threads : ℕ) (wanted : GearWants) (s n : CommandSide G) (by : CommandEnd L) (ended : EndOf L)
+    → Serves told outside workers map text threads wanted s n by → ended ≡ jkd_end by → ended ≡ end.Status 5 → Rose s.output_faults n.output_faults
 unfolding IsOfRun Answered
-does_lose told outside o s n ended does e =
-    elim (does_status told outside o s n ended 5 does e) [
+serve_lose told outside workers map text threads wanted s n by ended serves turned e =
+    elim (serve_status told outside workers map text threads wanted s n by 5 serves (served_status by 5 (sym turned ∙ e))) [
       | inl run ↦ absurd (elim run [ inl a ↦ omega (arith, a) | inr b ↦ elim b [ inl c ↦ omega (arith, c) | inr d ↦ omega (arith, d) ] ])
       | inr more ↦ elim more [ inl a ↦ absurd (omega (arith, a)) | inr b ↦ b.1 ]
     ]
 
+contain_status : {W G C S O X Z L : Type 0} (told : Tells W G C S O X Z) (route : List ℕ) (threads : ℕ) (wanted : GearWants) (s n : WorldSide G) (by : CommandEnd L) (ended : EndOf L) (k : ℕ)
+    → ContainsLinks told route threads wanted s n by → ended ≡ jkd_end by → ended ≡ end.Status k → IsOfRun k
+contain_status told route threads wanted s n by ended k links turned e =
+    works_status threads (RunsContainer told links.app threads wanted) s n by k (λ ran is. container_status _ ran.ends k (sym ran.status ∙ is)) links.works
+    (served_status by k (sym turned ∙ e))
+
+-- a call of `contain` never ends with the status of words that are no command
+pub contain_done : {W G C S O X Z L : Type 0} (told : Tells W G C S O X Z) (route : List ℕ) (threads : ℕ) (wanted : GearWants) (s n : WorldSide G) (by : CommandEnd L) (ended : EndOf L)
+    → ContainsLinks told route threads wanted s n by → ended ≡ jkd_end by → ended ≢ end.Status 2
+unfolding IsOfRun
+contain_done told route threads wanted s n by ended links turned e =
+    elim (contain_status told route threads wanted s n by ended 2 links turned e) [
+      | inl a ↦ omega (arith, a)
+      | inr b ↦ elim b [ inl c ↦ omega (arith, c) | inr d ↦ omega (arith, d) ]
+    ]
+
+-- nor with that of an output that was lost
+pub contain_keeps : {W G C S O X Z L : Type 0} (told : Tells W G C S O X Z) (route : List ℕ) (threads : ℕ) (wanted : GearWants) (s n : WorldSide G) (by : CommandEnd L) (ended : EndOf L)
+    → ContainsLinks told route threads wanted s n by → ended ≡ jkd_end by → ended ≢ end.Status 5
+unfolding IsOfRun
+contain_keeps told route threads wanted s n by ended links turned e =
+    elim (contain_status told route threads wanted s n by ended 5 links turned e) [
+      | inl a ↦ omega (arith, a)
+      | inr b ↦ elim b [ inl c ↦ omega (arith, c) | inr d ↦ omega (arith, d) ]
+    ]
+
+-- an order that asks for workers or threads is a command
+pub served_command : (asked : Result Order WordsError) (o same : Order) → asked ≡ Ok o → o ≡ same → is_served same ≡ true → IsNoCommand asked → ⊥
+served_command asked o same is meant served none =
+    let no : (is_served same || is_plain same) ≡ false = rw (is, meant) at none in
+    let yes : (is_served same || is_plain same) ≡ true = rw served refl in
+    cc
+
 -- a plain command that has files reads some
 reads_due : (o : Order) → has_file (readings o) ≡ true → reads_files o ≡ true
-reads_due (order.Serve workers map address threads clients journal watch idle log format cut limits control grace) due = refl
+reads_due (order.Serve o) due = refl
 reads_due (order.Container route address threads clients) due = due
 reads_due order.Play due = due
 reads_due (order.Dry request reply site) due = due
@@ -206,44 +171,6 @@ reads_due (order.Stop path) due = due
 reads_due (order.Demo address) due = due
 reads_due (order.Drill seed threads requests text passes) due = due
 
-pub files_read : (words : List (List ℕ)) (same : Type 0) → same ⊎ AreFilesDue words → same ⊎ AreFilesRead words
-files_read words same (inl kept) = inl kept
-files_read words same (inr due) = inr (due.0, due.1, reads_due due.0 due.2)
-
--- words that ask for workers are a command
-pub serving_command : (words : List (List ℕ)) → is_serving words ≡ true → is_command words ≡ false → ⊥
-serving_command words serving none = let is : is_command words ≡ true = rw serving refl in cc
-
--- and they aren't other words
-pub not_both : (words : List (List ℕ)) → is_serving words ≡ true → is_serving words ≡ false → ⊥
-not_both words serving none = cc
-
--- words that ask for workers are an order that does
-pub served_by : (words : List (List ℕ)) (o : Order) → is_serving words ≡ true → order_of words ≡ Some o → is_served o ≡ true
-served_by words o serving meant = subst (λ (found : Option Order). is_served_order found ≡ true) meant serving
-
--- other words are no such order
-pub not_served : (words : List (List ℕ)) (o : Order) → is_serving words ≡ false → order_of words ≡ Some o → is_served o ≡ true → ⊥
-not_served words o none meant served = let is : is_serving words ≡ true = subst (λ (found : Option Order). is_served_order found ≡ true) (sym meant) served in cc
-
--- where an order reads files its words do
-pub files_by : (words : List (List ℕ)) (o : Order) (same : Type 0) → order_of words ≡ Some o → same ⊎ (reads_files o ≡ true) → same ⊎ AreFilesRead words
-files_by words o same meant (inl kept) = inl kept
-files_by words o same meant (inr due) = inr (o, meant, due)
-
--- words are one order
-pub one_order : (words : List (List ℕ)) (o p : Order) → order_of words ≡ Some o → order_of words ≡ Some p → o ≡ p
-one_order words o p meant found = cc
-
--- ---- an end with a status
-
--- an end has one status
-pub status_is : {L : Type 0} (ended : EndOf L) (a b : ℕ) → ended ≡ end.Status a → ended ≡ end.Status b → a ≡ b
-status_is ended a b is e = let both = sym is ∙ e in cc
-
--- want of memory isn't the status of words that are no command, nor that of a lost output
-pub wanted_done : {L : Type 0} (ended : EndOf L) → ended ≡ end.Status 6 → ended ≢ end.Status 2
-wanted_done ended is e = omega (arith, status_is ended 6 2 is e)
-
-pub wanted_lost : {L : Type 0} (ended : EndOf L) → ended ≡ end.Status 6 → ended ≢ end.Status 5
-wanted_lost ended is e = omega (arith, status_is ended 6 5 is e)
+pub files_read : (o : Order) (same : Type 0) → same ⊎ (has_file (readings o) ≡ true) → same ⊎ (reads_files o ≡ true)
+files_read o same (inl kept) = inl kept
+files_read o same (inr due) = inr (reads_due o due)

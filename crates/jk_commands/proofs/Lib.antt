@@ -1,2 +1,1 @@
 mod CommandLaws
-mod OrderLaws

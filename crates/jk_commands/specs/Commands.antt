@@ -1,19 +1,17 @@
 -- What `serve`, `container` and `drill` do with the outside, and how they end. Read this first; what a call of the server does
--- is in jk_server's specs/Commands.antt, what one of a drill does in drill's specs/Written.antt, and which words are which
--- command in specs/Words.antt.
-use Rattle.std.specs.Prelude.{◌≡◌, ℕ, Bool, true, List, Some}
+-- is in jk_server's specs/Commands.antt, what one of a drill does in drill's specs/Written.antt, which orders are which command
+-- in specs/Orders.antt, and which words are which order in jk_cli's specs/Orders.antt.
+use Rattle.std.specs.Prelude.{◌≡◌, ℕ, Bool}
 use Rattle.drill.specs.Written.{RunsDrill}
 use Rattle.drill.specs.declared.writing.DrillEnd.{DrillEnd}
-use Rattle.jk_cli.specs.Orders.{order_of}
 use Rattle.jk_cli.specs.declared.order.Order.{Order}
 use Rattle.jk_cli.specs.declared.order.Order.TheVariants as order
-use Rattle.jk_server.specs.Commands.{command_side, CommandSide, CommandTells, Contains, format_text, Serves}
-use Rattle.gear_parts.specs.Wants.{container_wants, wants}
+use Rattle.jk_server.specs.Commands.{command_side, CommandSide, CommandTells, Contains, format_text, Serves, wants_by}
+use Rattle.gear_parts.specs.Wants.{container_wants}
 use Rattle.gear_parts.specs.Worlds.{Tells}
 use Rattle.jk_server.specs.declared.orders.ends.CommandEnd.{CommandEnd}
 use Rattle.site_reports.specs.Readings.{CommandOutside, OfFiles}
 use Rattle.jk_commands.specs.Ends.{jkd_end, of_drill}
-use Rattle.jk_commands.specs.Words.{is_served}
 use Rattle.jk_commands.specs.declared.ends.EndOf.{EndOf}
 
 -- The server was called, `Said` holds of how its call ended, and the command ended by that.
@@ -35,8 +33,8 @@ pub record Drills {G L : Type 0} (seed threads requests : ℕ) (text passes : Bo
 
 -- What an order that asks for workers or threads does.
 abbrev pub DoesOrder : {W G C S O X Z L : Type 0} → Tells W G C S O X Z → CommandOutside → Order → (s n : CommandSide G) → EndOf L → Type 0
-DoesOrder told outside (order.Serve workers map address threads clients journal watch idle log format cut limits control grace) s n ended =
-    EndsServed (Serves told outside workers map (format_text format) threads (wants address clients journal log limits control grace) s n) ended
+DoesOrder told outside (order.Serve o) s n ended =
+    EndsServed (Serves told outside o.workers o.map (format_text o.format) o.threads (wants_by o) s n) ended
 DoesOrder told outside (order.Container route address threads clients) s n ended = EndsServed (Contains told route threads (container_wants address clients) s n) ended
 DoesOrder told outside (order.Drill seed threads requests text passes) s n ended = Drills seed threads requests text passes s n ended
 DoesOrder told outside other s n ended = ⊥
@@ -47,8 +45,3 @@ DoesOrder told outside other s n ended = ⊥
 abbrev pub DoesAsked : {F O W G C S Y X Z L : Type 0} → CommandTells F O W G C S Y X Z → Order → (before after : F × O × W) → EndOf L → Type 0
 DoesAsked told o before after ended =
     OfFiles (told.files before.0) (λ outside. DoesOrder told.world outside o (command_side told before) (command_side told after) ended)
-
--- Words that ask for workers or threads do what their order does.
-abbrev pub DoesWords : {F O W G C S Y X Z L : Type 0} → CommandTells F O W G C S Y X Z → (words : List (List ℕ)) → (before after : F × O × W) → EndOf L → Type 0
-DoesWords told words before after ended =
-    (o : Order) → order_of words ≡ Some o → is_served o ≡ true → DoesAsked told o before after ended

@@ -1,4 +1,4 @@
 pub mod Commands
 pub mod Ends
+pub mod Orders
 pub mod Plain
-pub mod Words

@@ -1,25 +1,26 @@
 -- What a plain command does, in one record over its status.
-use Rattle.std.specs.Prelude.{◌≡◌, ◌↔◌, ℕ, false, ◌⊎◌, List}
+use Rattle.std.specs.Prelude.{◌≡◌, ◌↔◌, ℕ, false, ◌⊎◌}
+use Rattle.jk_cli.specs.declared.order.Order.{Order}
 use Rattle.jk_io.specs.Told.{Rose}
 use Rattle.plain_commands.specs.Endings.{PlainSide}
 use Rattle.plain_commands.specs.Plain.{is_plain, EndsWith, Prints, PrintsFront}
 use Rattle.jk_commands.specs.declared.ends.EndOf.{EndOf}
 use Rattle.jk_commands.specs.declared.ends.EndOf.TheVariants as end
 
--- What each status of a plain command says, of words that ask for no workers.
-pub record RunsPlain (words : List (List ℕ)) (s n : PlainSide) (status : ℕ) : Type 0 where
+-- What each status of a plain command says, of an order that asks for no workers.
+pub record RunsPlain (command : Order) (s n : PlainSide) (status : ℕ) : Type 0 where
   pub statuses : (status ≡ 0) ⊎ (status ≡ 1) ⊎ (status ≡ 2) ⊎ (status ≡ 3) ⊎ (status ≡ 4) ⊎ (status ≡ 5) ⊎ (status ≡ 6)
-  pub done : status ≡ 0 → Prints words s.outside s.sent n.sent 0
-  pub bad : status ≡ 1 → Prints words s.outside s.sent n.sent 1
-  pub refused : status ≡ 3 → Prints words s.outside s.sent n.sent 3
-  pub no_command : (status ≡ 2) ↔ (is_plain words ≡ false)
+  pub done : status ≡ 0 → Prints command s.outside s.sent n.sent 0
+  pub bad : status ≡ 1 → Prints command s.outside s.sent n.sent 1
+  pub refused : status ≡ 3 → Prints command s.outside s.sent n.sent 3
+  pub no_command : (status ≡ 2) ↔ (is_plain command ≡ false)
   pub no_words : status ≡ 2 → n.sent ≡ s.sent
-  pub input_fault : status ≡ 4 → Rose s.faults.files n.faults.files ⊎ Rose s.faults.input n.faults.input ⊎ EndsWith words s.outside 4
+  pub input_fault : status ≡ 4 → Rose s.faults.files n.faults.files ⊎ Rose s.faults.input n.faults.input ⊎ EndsWith command s.outside 4
   pub nothing : status ≡ 4 → n.sent ≡ s.sent
   pub output_fault : status ≡ 5 → Rose s.faults.output n.faults.output
-  pub part : status ≡ 5 → PrintsFront words s.outside s.sent n.sent
-  pub wanting : status ≡ 6 → (n.sent ≡ s.sent) ⊎ PrintsFront words s.outside s.sent n.sent
+  pub part : status ≡ 5 → PrintsFront command s.outside s.sent n.sent
+  pub wanting : status ≡ 6 → (n.sent ≡ s.sent) ⊎ PrintsFront command s.outside s.sent n.sent
 
 -- A command ends with a status of which `RunsPlain` holds.
-abbrev pub EndsPlain : {L : Type 0} → (words : List (List ℕ)) → (s n : PlainSide) → EndOf L → Type 0
-EndsPlain words s n ended = (status : ℕ) × (ended ≡ end.Status status) × RunsPlain words s n status
+abbrev pub EndsPlain : {L : Type 0} → (command : Order) → (s n : PlainSide) → EndOf L → Type 0
+EndsPlain command s n ended = (status : ℕ) × (ended ≡ end.Status status) × RunsPlain command s n status

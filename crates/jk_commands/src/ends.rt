@@ -14,6 +14,9 @@ const DONE: u8 = 0;
 /// The status of a `Discord`.
 const DIFFERS: u8 = 1;
 
+/// The status of words that are no command.
+pub const NO_COMMAND: u8 = 2;
+
 /// The status of a write of the output that failed.
 pub const OUTPUT_FAULT: u8 = 5;
 

@@ -1,10 +1,10 @@
 -- What `serve` and `container` do with the outside, and how they end. Read this first; what a run does is in specs/Runs.antt and
 -- specs/Containers.antt.
 use Rattle.std.specs.Prelude.{◌≡◌, ℕ, ◌-◌, ◌≤◌, ◌⊎◌, min, max, List, [], length, map, Option, Some, None, codes}
-use Rattle.std.specs.Option.{option_copied}
 use Rattle.std.specs.List.{All, AllZip}
 use Rattle.client_session.specs.Requests.{visit}
 use Rattle.mini_container.specs.declared.worker_ends.ContainerWorker.{ContainerWorker}
+use Rattle.jk_cli.specs.declared.order.ServeOrder.{ServeOrder}
 use Rattle.jk_io.specs.Told.{appended, PutsFront, Rose}
 use Rattle.jk_io.specs.declared.traits.streams.Meanings.{Ghosts}
 use Rattle.jk_io.specs.declared.traits.surroundings.Files.{Ghosts as FilesGhosts}
@@ -22,13 +22,12 @@ use Rattle.jk_server.specs.declared.runs.ends.Closing.{Closing}
 use Rattle.jk_server.specs.declared.part.WorkerEnd.{WorkerEnd}
 use Rattle.jk_server.specs.Ends.{end_of_container, end_of_run, returned}
 use Rattle.site_reports.specs.Sites.{IsSite}
-use Rattle.gear_parts.specs.Wants.{AreSuited, GearWants, wants_of}
+use Rattle.gear_parts.specs.Wants.{AreSuited, GearWants, wants, wants_of}
 use Rattle.gear_parts.specs.Worlds.{HandsAndTakes, IsMade, RefusesGear, Tells, WorldSide}
 use Rattle.jk_server.specs.declared.orders.ends.CommandEnd.{CommandEnd}
 use Rattle.jk_server.specs.declared.orders.ends.CommandEnd.TheVariants as end
 use Rattle.gear_parts.specs.declared.order.GearOrder.{GearOrder}
 use Rattle.jk_server.specs.declared.orders.container.ContainerOrder.{ContainerOrder}
-use Rattle.jk_server.specs.declared.orders.serve.ServeOrder.{ServeOrder}
 use Rattle.site_reports.specs.declared.site.ReadSite.{ReadSite}
 
 -- What is told at a moment: how often the files failed, what the output was sent and how often it failed, and the world.
@@ -223,10 +222,14 @@ pub record Contains {W G C S O X Z L : Type 0} (told : Tells W G C S O X Z) (rou
 
 -- ---- the same of what a command goes over, as it was before and is after it
 
+-- what the gears of `serve` are wanted for
+abbrev pub wants_by : ServeOrder → GearWants
+wants_by order = wants order.address order.clients order.journal order.log order.limits order.control order.grace
+
 -- The workers of a site were wanted.
 abbrev pub WorksSite : {W G C S O X Z L : Type 0} → Tells W G C S O X Z → ServeOrder → List FormatPart → ReadSite → (before after : W) → CommandEnd L → Type 0
 WorksSite told order format site before after ended =
-    Works order.threads (RunsLogged told site.cfg site.map format order.threads (wants_of order.asked)) (told.world before) (told.world after) ended
+    Works order.threads (RunsLogged told site.cfg site.map format order.threads (wants_by order)) (told.world before) (told.world after) ended
 
 -- The workers of a container were wanted.
 abbrev pub WorksContainer : {W G C S O X Z L : Type 0} → Tells W G C S O X Z → AppConfig → (threads : ℕ) → GearOrder → (before after : W) → CommandEnd L → Type 0
@@ -241,5 +244,5 @@ ContainsAsked told order before after ended =
 -- `serve` over its files, whatever the input.
 abbrev pub ServesOrder : {F O W G C S Y X Z L : Type 0} → CommandTells F O W G C S Y X Z → ServeOrder → (before after : F × O × W) → CommandEnd L → Type 0
 ServesOrder told order before after ended =
-    OfFiles (told.files before.0) (λ outside. Serves told.world outside order.workers.now order.map.now (format_text (option_copied order.format)) order.threads (wants_of order.asked)
+    OfFiles (told.files before.0) (λ outside. Serves told.world outside order.workers order.map (format_text order.format) order.threads (wants_by order)
     (command_side told before) (command_side told after) ended)

@@ -24,7 +24,7 @@ pub use mini_container::{
 };
 pub use orders::container::{ContainerOrder, MOST_ROUTE_BYTES, contain};
 pub use orders::ends::CommandEnd;
-pub use orders::serve::{ServeOrder, cut_at, serve, watch_plan};
+pub use orders::serve::{cut_at, serve};
 pub use part::{WorkerEnd, WorkerEndList};
 pub use runs::ends::{Closing, SiteRun};
 pub use runs::parts::{SitePlan, WatchPlan};

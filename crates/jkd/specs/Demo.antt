@@ -28,8 +28,22 @@ demo_files a b = (codes "workers.properties", demo_workers a b) ∷ (codes "uriw
 -- `serve` of the demo's front, with the limits that `serve` has without options
 abbrev pub demo_front : (address : List ℕ) → Order
 demo_front address =
-    order.Serve (codes "workers.properties") (codes "uriworkermap.properties") address 8 None None None None None None None
-    (record { head = 20; keep = 60; rate = 500; waiting = 10000 }) None 30
+    order.Serve (record {
+      workers = codes "workers.properties";
+      map = codes "uriworkermap.properties";
+      address = address;
+      threads = 8;
+      clients = None;
+      journal = None;
+      watch = None;
+      idle = None;
+      log = None;
+      format = None;
+      cut = None;
+      limits = record { head = 20; keep = 60; rate = 500; waiting = 10000 };
+      control = None;
+      grace = 30;
+    })
 
 abbrev pub route_of : DemoContainer → List ℕ
 route_of (container.A port) = codes "a"

@@ -1,13 +1,15 @@
 //! `demo`: two containers and a front before them, each as the command of its kind does it.
-ghost use Rattle.std.specs.Prelude.{◌≡◌, ◌++◌, ◌∷◌, [], codes, decimal, IfOk, OnOk};
+ghost use Rattle.std.specs.Prelude.{◌≡◌, ◌≤◌, ◌++◌, ◌∷◌, [], codes, decimal, length, IfOk, OnOk};
+ghost use Rattle.jk_cli.specs.declared.ranges.TheConstants.{MOST_ROUTE_BYTES};
 ghost use Rattle.jk_server.specs.Commands.{telling};
 ghost use Rattle.jkd.specs.Demo.{ContainsDemo, ServesDemo, demo_container, demo_files, demo_front, demo_workers, port_of, route_of};
 
 use gear_parts::ToldWorld;
-use jk_cli::Order;
-use jk_commands::{EndOf, JkdEnd, NO_MEMORY, do_order, let_go};
+use jk_cli::{ContainerRoute, Order, ServeOrder, ThreadCount};
+use jk_commands::{EndOf, JkdEnd, NO_MEMORY, let_go, run_jkd};
 use jk_io::{
-    Bytes, ClientLimits, Door, FileList, Files, MemFiles, NoMemory, NumberList, Sink, put_decimal,
+    Bytes, ClientLimits, Door, FileList, Files, MemFiles, MemLink, NoMemory, NumberList, Sink,
+    put_decimal,
 };
 use std::alloc::Global;
 use std::sync::Wait;
@@ -73,11 +75,11 @@ pub(crate) fn demo_files(alloc: Global, ports: DemoPorts) -> Result<MemFiles, No
 fn front_order(alloc: Global, address: &Bytes) -> Result<Order, NoMemory>
     ensures { IfOk result (λ made. made ≡ demo_front address.now) }
 {
-    Ok(Order::Serve {
+    Ok(Order::Serve(ServeOrder {
         workers: Bytes::from_slice(alloc, WORKERS)?,
         map: Bytes::from_slice(alloc, MAP)?,
         address: address.copy()?,
-        threads: 8,
+        threads: ThreadCount::new(8),
         clients: None,
         journal: None,
         watch: None,
@@ -93,12 +95,13 @@ fn front_order(alloc: Global, address: &Bytes) -> Result<Order, NoMemory>
         },
         control: None,
         grace: 30,
-    })
+    }))
 }
 
 /// The route of its session ids.
 fn route_of(which: DemoContainer) -> &'static [u8]
-    ensures { result.now ≡ route_of which }
+    ensures route { result.now ≡ route_of which }
+    ensures short { length result.now ≤ MOST_ROUTE_BYTES }
 {
     match which {
         DemoContainer::A(_) => b"a",
@@ -129,11 +132,16 @@ fn container_order(alloc: Global, which: DemoContainer) -> Result<Order, NoMemor
     ensures { IfOk result (λ made. made ≡ demo_container which) }
 {
     Ok(Order::Container {
-        route: Bytes::from_slice(alloc, route_of(which))?,
+        route: ContainerRoute::new(Bytes::from_slice(alloc, route_of(which))?),
         address: local_address(alloc, port_of(which))?,
-        threads: 8,
+        threads: ThreadCount::new(8),
         clients: None,
     })
+}
+
+/// An input from which nothing comes.
+pub(crate) fn no_input(alloc: Global) -> MemLink {
+    MemLink::new(alloc, Bytes::new(alloc), NumberList::new(alloc))
 }
 
 /// The demo's front, over its files: what `serve` does with them, for clients at this address.
@@ -152,8 +160,9 @@ where
 {
     match front_order(alloc, address) {
         Ok(order) => {
-            let end = do_order(rt, alloc, &order, files, out, world);
-            let_go(order);
+            let asked = Ok(order);
+            let end = run_jkd(rt, alloc, &asked, files, &mut no_input(alloc), out, world);
+            let_go(asked);
             end
         }
         Err(NoMemory) => EndOf::Status(NO_MEMORY),
@@ -176,8 +185,9 @@ where
 {
     match container_order(alloc, which) {
         Ok(order) => {
-            let end = do_order(rt, alloc, &order, files, out, world);
-            let_go(order);
+            let asked = Ok(order);
+            let end = run_jkd(rt, alloc, &asked, files, &mut no_input(alloc), out, world);
+            let_go(asked);
             end
         }
         Err(NoMemory) => EndOf::Status(NO_MEMORY),

@@ -2,7 +2,7 @@
 //! them, since it alone has a runtime that may be sent to a thread.
 use crate::demo::{DemoContainer, DemoPorts, contain_demo, demo_files, serve_demo};
 use crossbeam_channel::{Receiver, Sender};
-use jk_cli::{Order, read_words};
+use jk_cli::{Order, WordsError};
 use jk_commands::{NO_MEMORY, let_go};
 use jk_io::{Bytes, Door, Source};
 use libc::net::{POLLIN, poll};
@@ -67,7 +67,8 @@ fn free_ports<R: Net<Stream = TcpStream, Listener = TcpListener>>(rt: &R) -> io:
 }
 
 /// A demo of a front at this address before containers at these ports; none where memory is wanted.
-fn demo_at(alloc: Global, address: Bytes, ports: DemoPorts) -> Option<Demo> {
+fn demo_at(alloc: Global, address: &Bytes, ports: DemoPorts) -> Option<Demo> {
+    let address = address.copy().ok()?;
     let (input, ends) = crossbeam_channel::unbounded(alloc).ok()?;
     let to = input.clone().ok()?;
     let front = DemoFront { address, ports, to };
@@ -83,30 +84,26 @@ fn demo_at(alloc: Global, address: Bytes, ports: DemoPorts) -> Option<Demo> {
     Some(Demo { parts, ends })
 }
 
-/// The demo that the words ask for, or the status where it can't be had; none where they ask for no demo.
+/// The demo that is asked for, or the status where it can't be had; none where none is.
 pub(crate) fn demo_of<R: Net<Stream = TcpStream, Listener = TcpListener> + Eprint + AllocGlobal>(
     rt: &R,
-    words: &[Bytes],
+    asked: &Result<Order, WordsError>,
 ) -> Option<Result<Demo, u8>> {
-    match read_words(rt.alloc(), words) {
+    match asked {
         Ok(Order::Demo { address }) => Some(open_demo(rt, address)),
-        Ok(other) => {
-            let_go(other);
-            None
-        }
-        Err(_) => None,
+        _ => None,
     }
 }
 
 /// The demo of a front at this address, of which it says what to type; or the status where it can't be had.
 fn open_demo<R: Net<Stream = TcpStream, Listener = TcpListener> + Eprint + AllocGlobal>(
     rt: &R,
-    address: Bytes,
+    address: &Bytes,
 ) -> Result<Demo, u8> {
     let Ok(ports) = free_ports(rt) else {
         return Err(FAULT);
     };
-    tell_demo(rt, &address, ports);
+    tell_demo(rt, address, ports);
     match demo_at(rt.alloc(), address, ports) {
         Some(demo) => Ok(demo),
         None => Err(NO_MEMORY),

@@ -1,11 +1,12 @@
 //! What of the files of `serve` has no effect, said before it serves.
 
 use crate::ahead_files::{Ahead, ahead_of};
+use crate::demo::no_input;
 use crate::marked_sink::MarkedSink;
 use crate::write_sink::WriteSink;
-use jk_cli::{Order, read_words};
-use jk_commands::{is_serving, let_go};
-use jk_io::{Bytes, Files, ListOf, MemLink, NoMemory, NumberList};
+use jk_cli::{Order, ServeOrder, WordsError};
+use jk_commands::let_go;
+use jk_io::{Bytes, Files, ListOf, NoMemory};
 use plain_commands::run_plain;
 use real_io::RealFiles;
 use remarks::{Ended, InputSeen, KeptFiles, ReadFile, RemarkOut, remarks_on};
@@ -17,30 +18,26 @@ use std::rt::Files as SystemFiles;
 /// The status of files that are accepted.
 const ACCEPTED: u8 = 0;
 
-/// The words of `config` for these two files. After `--` each word is a file.
-fn config_of(alloc: Global, workers: &Bytes, map: &Bytes) -> Result<ListOf<Bytes>, NoMemory> {
+/// What `config` is asked for these two files: its order, and its words for the remarks.
+#[derive(Drop)]
+struct ConfigOrder {
+    order: Order,
+    words: ListOf<Bytes>,
+}
+
+/// `config` for the files of `serve`.
+fn config_of(alloc: Global, serve: &ServeOrder) -> Result<ConfigOrder, NoMemory> {
     let mut words = ListOf::new(alloc);
     words.push(Bytes::from_slice(alloc, b"config")?)?;
     words.push(Bytes::from_slice(alloc, b"--")?)?;
-    words.push(workers.copy()?)?;
-    words.push(map.copy()?)?;
-    Ok(words)
-}
-
-/// The words of `config` for the files of an order to serve; none for another one, or where there is no memory for them.
-fn words_for(alloc: Global, order: &Order) -> Option<ListOf<Bytes>> {
-    match order {
-        Order::Serve { workers, map, .. } => config_of(alloc, workers, map).ok(),
-        _ => None,
-    }
-}
-
-/// The words of `config` for the files of `serve`; none for another command, or where there is no memory for them.
-fn config_words(alloc: Global, words: &[Bytes]) -> Option<ListOf<Bytes>> {
-    let order = read_words(alloc, words).ok()?;
-    let asked = words_for(alloc, &order);
-    let_go(order);
-    asked
+    words.push(serve.workers.copy()?)?;
+    words.push(serve.map.copy()?)?;
+    let workers = serve.workers.copy()?;
+    let map = Some(serve.map.copy()?);
+    Ok(ConfigOrder {
+        order: Order::Config { workers, map },
+        words,
+    })
 }
 
 /// Writes what `config` tells of files that it accepted.
@@ -61,23 +58,24 @@ fn write_effects<W: Write + Drop>(alloc: Global, words: &[Bytes], reads: &[ReadF
     let _ = out.finish();
 }
 
-/// An input from which nothing comes.
-fn no_input(alloc: Global) -> MemLink {
-    MemLink::new(alloc, Bytes::new(alloc), NumberList::new(alloc))
-}
-
 /// Does `config`, whose output is let go, and writes what it tells of files that it accepts. Answers what it read.
 fn tell_config<F: Files + Drop, W: Write + Drop>(
     alloc: Global,
-    words: &[Bytes],
+    config: &ConfigOrder,
     files: F,
     err: W,
 ) -> Ahead {
     let mut files = KeptFiles::new(alloc, files);
     let mut out = WriteSink::new(io::sink());
-    let status = run_plain(alloc, words, &mut files, &mut no_input(alloc), &mut out);
+    let status = run_plain(
+        alloc,
+        &config.order,
+        &mut files,
+        &mut no_input(alloc),
+        &mut out,
+    );
     if status == ACCEPTED {
-        write_effects(alloc, words, files.reads(), err);
+        write_effects(alloc, config.words.as_slice(), files.reads(), err);
     }
     let ahead = ahead_of(alloc, files.reads());
     let_go(files);
@@ -88,14 +86,19 @@ fn tell_config<F: Files + Drop, W: Write + Drop>(
 /// read, so that it isn't read again. Nothing is said here of files that are refused, since `serve` says it itself.
 pub(crate) fn tell_effects<R: SystemFiles + Net + AllocGlobal, W: Write + Drop>(
     rt: &R,
-    words: &[Bytes],
+    asked: &Result<Order, WordsError>,
     err: W,
 ) -> Ahead {
-    if !is_serving(words) {
-        return ahead_of(rt.alloc(), &[]);
-    }
-    match config_words(rt.alloc(), words) {
-        Some(words) => tell_config(rt.alloc(), words.as_slice(), RealFiles::new(rt), err),
-        None => ahead_of(rt.alloc(), &[]),
+    let alloc = rt.alloc();
+    let Ok(Order::Serve(serve)) = asked else {
+        return ahead_of(alloc, &[]);
+    };
+    match config_of(alloc, serve) {
+        Ok(config) => {
+            let ahead = tell_config(alloc, &config, RealFiles::new(rt), err);
+            let_go(config);
+            ahead
+        }
+        Err(NoMemory) => ahead_of(alloc, &[]),
     }
 }

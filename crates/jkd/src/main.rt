@@ -1,11 +1,11 @@
 //! jkd: a connector that balances requests over servlet containers.
 //!
-//! Here stand the words of the command line, the real files, streams and world, over which `jk_commands` does what they ask
-//! for, what is told of it on standard error, and the demo.
+//! Here stand the words of the command line, which are read once, the real files, streams and world, over which `jk_commands`
+//! does what they ask for, what is told of it on standard error, and the demo.
 //!
 //! Source: own rules for the demo and for what is told.
-//! Contract: of `demo`, `serve_demo` and `contain_demo`, each by `do_order`; `do_in`, that the status is that of `run_jkd`. Read
-//! first: jk_commands' specs/Commands.antt, then specs/Demo.antt.
+//! Contract: of `demo`, `serve_demo` and `contain_demo`, each by `run_jkd`. Read first: jk_commands' specs/Commands.antt, then
+//! specs/Demo.antt.
 //! Errors: the statuses 1 to 7, as `run_jkd` gives them.
 #![tactic(auto)]
 
@@ -22,7 +22,8 @@ mod write_sink;
 use arguments::{WordList, WordsError, read_words};
 use demo_threads::{DEMO_THREADS, Demo, demo_of, end_of, run_part, send_end};
 use effects::tell_effects;
-use jk_commands::{NO_MEMORY, OUTPUT_FAULT, let_go};
+use jk_cli::read_words as read_order;
+use jk_commands::{NO_COMMAND, NO_MEMORY, OUTPUT_FAULT, let_go};
 use jk_io::{Bytes, IoError, NoMemory, Sink, write_all};
 use outside::{do_outside, tell_trouble, threads_of};
 use plain_commands::{USAGE, asked_text};
@@ -31,9 +32,6 @@ use std::process::ExitCode;
 use std::rt::Env;
 use std::thread;
 use worker_gears::RealWorld;
-
-/// The status of words that are no command.
-const NO_COMMAND: u8 = 2;
 
 fn print_text<O: Sink>(out: &mut O, text: &[u8]) -> u8 {
     match write_all(out, text) {
@@ -96,10 +94,15 @@ fn main(rt: HostRuntime) -> ExitCode {
         Err(status) => return ended(&rt, status),
     };
     let words = words.as_slice();
-    match demo_of(&rt, words) {
+    let asked = read_order(rt.alloc(), words);
+    match demo_of(&rt, &asked) {
         None => {}
-        Some(Err(status)) => return ended(&rt, status),
+        Some(Err(status)) => {
+            let_go(asked);
+            return ended(&rt, status);
+        }
         Some(Ok(Demo { parts, ends })) => {
+            let_go(asked);
             for part in parts {
                 let begun = thread::spawn(&rt, move || {
                     let mut world = RealWorld::new(&rt, DEMO_THREADS);
@@ -115,9 +118,10 @@ fn main(rt: HostRuntime) -> ExitCode {
             return ended(&rt, end_of(&rt, &ends));
         }
     }
-    let ahead = tell_effects(&rt, words, rt.stderr());
-    let mut world = RealWorld::new(&rt, threads_of(rt.alloc(), words));
-    let status = do_outside(&rt, words, ahead, &mut world, rt.stderr());
+    let ahead = tell_effects(&rt, &asked, rt.stderr());
+    let mut world = RealWorld::new(&rt, threads_of(&asked));
+    let status = do_outside(&rt, words, &asked, ahead, &mut world, rt.stderr());
+    let_go(asked);
     tell_trouble(&rt, world.trouble());
     if status == 0 {
         world.say_ended();

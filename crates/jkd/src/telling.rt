@@ -1,8 +1,8 @@
 //! What a person reads on standard error once a command ended.
 use crate::write_sink::WriteSink;
-use jk_cli::{CommandName, command_of};
-use jk_io::{Bytes, NoMemory};
-use remarks::{Ended, InputSeen, ReadFile, RemarkOut, remarks_on, unread_file};
+use jk_cli::{Order, WordsError};
+use jk_io::NoMemory;
+use remarks::{Ended, ReadFile, RemarkOut, remarks_on, unread_file};
 use std::alloc::Global;
 use std::io::{Read, Write};
 use std::net::Net;
@@ -45,47 +45,27 @@ fn reason_of<R: Files + Net + AllocGlobal>(
     }
 }
 
-fn reason<R: Files + Net + AllocGlobal>(
+/// Why a file that couldn't be read wasn't; nothing where each was.
+pub(crate) fn reason<R: Files + Net + AllocGlobal>(
     rt: &R,
-    words: &[Bytes],
+    asked: &Result<Order, WordsError>,
     reads: &[ReadFile],
 ) -> Result<String, NoMemory> {
     match unread_file(reads) {
-        Some(name) => reason_of(rt, name, asks_stop(words)),
+        Some(name) => reason_of(rt, name, asks_stop(asked)),
         None => Ok(String::new(rt.alloc())),
     }
 }
 
-/// Whether the words ask a front to end.
-pub(crate) fn asks_stop(words: &[Bytes]) -> bool {
-    matches!(command_of(words), Some(CommandName::Stop))
+/// Whether a front is asked to end.
+pub(crate) fn asks_stop(asked: &Result<Order, WordsError>) -> bool {
+    matches!(asked, Ok(Order::Stop { .. }))
 }
 
-/// Writes what a person is told of a command that ended.
-fn write_remarks<W: Write + Drop>(alloc: Global, err: W, ended: &Ended<'_>) {
+/// Writes what a person is told of a command that ended. A write that fails ends it and changes nothing, and so does want of
+/// memory.
+pub(crate) fn tell<W: Write + Drop>(alloc: Global, err: W, ended: &Ended<'_>) {
     let mut out = RemarkOut::new(alloc, WriteSink::new(err));
     let _ = remarks_on(alloc, &mut out, ended);
     let _ = out.finish();
-}
-
-/// Writes what a person is told of a command. A write that fails ends it and changes nothing, and so does want of memory.
-pub(crate) fn tell<R: Files + Net + AllocGlobal, W: Write + Drop>(
-    rt: &R,
-    err: W,
-    words: &[Bytes],
-    status: u8,
-    reads: &[ReadFile],
-    input: InputSeen,
-) {
-    let Ok(reason) = reason(rt, words, reads) else {
-        return;
-    };
-    let ended = Ended {
-        words,
-        status,
-        reads,
-        input,
-        reason: reason.as_bytes(),
-    };
-    write_remarks(rt.alloc(), err, &ended);
 }

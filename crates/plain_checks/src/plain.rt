@@ -1,9 +1,42 @@
 //! The plain commands over files, input and output in memory.
 use check_rows::comparing::wants;
 use check_rows::row::{BlockRow, RowError};
-use jk_io::{Bytes, MemFiles, MemLink, NoMemory, NumberList};
+use jk_cli::{Order, WordsError, read_words};
+use jk_io::{Bytes, Files, MemFiles, MemLink, NoMemory, NumberList, Sink, Source};
 use plain_commands::run_plain;
 use std::alloc::Global;
+
+/// The status of words that are no command.
+const NO_COMMAND: u8 = 2;
+
+/// The status of want of memory.
+const NO_MEMORY: u8 = 6;
+
+/// Does a command, and lets its order go.
+fn do_order<F: Files, S: Source, O: Sink>(
+    alloc: Global,
+    order: Order,
+    files: &mut F,
+    input: &mut S,
+    out: &mut O,
+) -> u8 {
+    run_plain(alloc, &order, files, input, out)
+}
+
+/// Does the command of the words, where they are one, and answers its status.
+pub fn do_words<F: Files, S: Source, O: Sink>(
+    alloc: Global,
+    words: &[Bytes],
+    files: &mut F,
+    input: &mut S,
+    out: &mut O,
+) -> u8 {
+    match read_words(alloc, words) {
+        Ok(order) => do_order(alloc, order, files, input, out),
+        Err(WordsError::Bad) => NO_COMMAND,
+        Err(WordsError::NoMemory) => NO_MEMORY,
+    }
+}
 
 /// Whether the status of a command, the bytes that its input gave and what it wrote are as its row says.
 fn wants_command(
@@ -55,7 +88,7 @@ fn over_input(
     input: &mut MemLink,
 ) -> Result<bool, RowError> {
     let mut out = output_of(alloc, row)?;
-    let status = run_plain(alloc, words, files, input, &mut out);
+    let status = do_words(alloc, words, files, input, &mut out);
     let reads = input.received().len() as u64;
     wants_command(alloc, row, status, reads, out.sent())
 }

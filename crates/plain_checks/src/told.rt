@@ -1,9 +1,8 @@
 //! What a person is told of a command that ended.
-use crate::plain::{files_of, input_of};
+use crate::plain::{do_words, files_of, input_of};
 use crate::row_text::RowText;
 use check_rows::row::{BlockRow, RowError};
 use jk_io::{Bytes, Files, MemFiles, MemLink, NoMemory, NumberList, Sink, Source};
-use plain_commands::run_plain;
 use remarks::{CountedInput, Ended, KeptFiles, RemarkOut, remarks_on};
 use std::alloc::Global;
 
@@ -56,7 +55,7 @@ fn over_input<F: Files + Drop, S: Source + Drop>(
     input: &mut CountedInput<S>,
     out: &mut RowText,
 ) -> Result<(), NoMemory> {
-    let status = run_plain(alloc, words, files, input, &mut empty_link(alloc));
+    let status = do_words(alloc, words, files, input, &mut empty_link(alloc));
     let ended = Ended {
         words,
         status,

@@ -4,7 +4,7 @@
 //! `help`: the text that the words ask for.
 use crate::row_text::RowText;
 use check_rows::row::{BlockRow, RowError};
-use jk_cli::{Order, command, command_of, read_words};
+use jk_cli::{Order, ServeOrder, command, command_of, read_words};
 use jk_io::{Bytes, NoMemory};
 use plain_commands::asked_text;
 use std::alloc::Global;
@@ -67,30 +67,19 @@ fn put_drill(out: &mut RowText, order: &Order) {
         return;
     };
     out.number(b"drill ", *seed);
-    out.number(b" ", u64::from(*threads));
-    out.number(b" ", *requests);
+    out.number(b" ", u64::from(threads.get()));
+    out.number(b" ", u64::from(requests.get()));
     out.put(if *text { b" journal" } else { b"" });
     out.put(if *passes { b" passes" } else { b"" });
 }
 
-fn put_serve(out: &mut RowText, order: &Order) {
-    let Order::Serve {
-        workers,
-        map,
-        address,
-        threads,
-        clients,
-        journal,
-        ..
-    } = order
-    else {
-        return;
-    };
+fn put_serve(out: &mut RowText, order: &ServeOrder) {
     out.put(b"serve");
-    out.words(&[workers.as_slice(), map.as_slice(), address.as_slice()]);
-    out.number(b" ", u64::from(*threads));
-    put_given(out, b" clients ", *clients);
-    put_text(out, b" journal ", journal);
+    let (workers, map) = (order.workers.as_slice(), order.map.as_slice());
+    out.words(&[workers, map, order.address.as_slice()]);
+    out.number(b" ", u64::from(order.threads.get()));
+    put_given(out, b" clients ", order.clients);
+    put_text(out, b" journal ", &order.journal);
     put_watched(out, order);
     put_front(out, order);
 }
@@ -103,42 +92,23 @@ fn put_unusual(out: &mut RowText, name: &[u8], number: u64, usual: u64) {
 }
 
 /// What a front is told of its clients and its end.
-fn put_front(out: &mut RowText, order: &Order) {
-    let Order::Serve {
-        cut,
-        limits,
-        control,
-        grace,
-        ..
-    } = order
-    else {
-        return;
-    };
-    put_given(out, b" cut ", *cut);
-    put_text(out, b" control ", control);
+fn put_front(out: &mut RowText, order: &ServeOrder) {
+    let limits = &order.limits;
+    put_given(out, b" cut ", order.cut);
+    put_text(out, b" control ", &order.control);
     put_unusual(out, b" head ", limits.head, 20);
     put_unusual(out, b" keep ", limits.keep, 60);
     put_unusual(out, b" rate ", limits.rate, 500);
     put_unusual(out, b" waiting ", limits.waiting, 10_000);
-    put_unusual(out, b" grace ", *grace, 30);
+    put_unusual(out, b" grace ", order.grace, 30);
 }
 
 /// What `serve` watches and logs.
-fn put_watched(out: &mut RowText, order: &Order) {
-    let Order::Serve {
-        watch,
-        idle,
-        log,
-        format,
-        ..
-    } = order
-    else {
-        return;
-    };
-    put_given(out, b" watch ", *watch);
-    put_looks(out, b" idle ", *idle);
-    put_text(out, b" log ", log);
-    put_text(out, b" format ", format);
+fn put_watched(out: &mut RowText, order: &ServeOrder) {
+    put_given(out, b" watch ", order.watch);
+    put_looks(out, b" idle ", order.idle);
+    put_text(out, b" log ", &order.log);
+    put_text(out, b" format ", &order.format);
 }
 
 fn put_container(out: &mut RowText, order: &Order) {
@@ -152,8 +122,8 @@ fn put_container(out: &mut RowText, order: &Order) {
         return;
     };
     out.put(b"container");
-    out.words(&[route.as_slice(), address.as_slice()]);
-    out.number(b" ", u64::from(*threads));
+    out.words(&[route.text().as_slice(), address.as_slice()]);
+    out.number(b" ", u64::from(threads.get()));
     put_given(out, b" clients ", *clients);
 }
 
@@ -185,7 +155,7 @@ fn put_order(out: &mut RowText, order: &Order) {
         Order::Log { .. } => put_log(out, order),
         Order::Follow => out.put(b"follow"),
         Order::Drill { .. } => put_drill(out, order),
-        Order::Serve { .. } => put_serve(out, order),
+        Order::Serve(order) => put_serve(out, order),
         Order::Container { .. } => put_container(out, order),
         Order::Stop { path } => {
             out.put(b"stop");

@@ -1,22 +1,17 @@
 -- Inputs that are too long, and what reports print.
-use Rattle.std.proofs.Common.{ℕ, ◌≡◌, ◌<◌, ◌⊎◌, Bool, true, List, [], ◌∷◌, length, Option, Some, None, Result, Ok, Err, IfOk, IfSome, codes, refl, sym, ap, subst, inl, inr, arith, length-append}
-use Rattle.std.specs.Prelude.{option_map, IsErrOf}
-use Rattle.jk_cli.specs.Names.{command_in}
-use Rattle.jk_cli.specs.Orders.{order_of}
-use Rattle.jk_cli.specs.declared.order.Order.{Order}
+use Rattle.std.proofs.Common.{ℕ, ◌≡◌, ◌<◌, Bool, true, List, [], ◌∷◌, length, Option, Some, None, Result, Ok, Err, IfOk, IfSome, codes, refl, sym, ap, subst, inl, inr, arith, length-append}
+use Rattle.std.specs.Prelude.{IsErrOf}
 use Rattle.jk_cli.specs.declared.order.Order.TheVariants as order
 use Rattle.jk_io.specs.Told.{prepended}
 use Rattle.jk_io.specs.declared.failures.IoError.{IoError}
 use Rattle.jk_io.specs.declared.failures.IoError.TheVariants as io
 use Rattle.jk_io.specs.declared.failures.NoMemory.{NoMemory}
 use Rattle.plain_commands.specs.Causes.{IsCaused}
-use Rattle.plain_commands.specs.Endings.{status_of, AnswersOrder, EndsSo, PlainSide, PrintsOfInput}
-use Rattle.plain_commands.specs.Plain.{is_built, is_plain, is_plain_command, MatchesRead, Plain, PrintsOf, Reported, status_if, readings, AreFilesDue, HasFormat, IsFormatDue, InputIsDue, IsInputDue}
+use Rattle.plain_commands.specs.Endings.{status_of, PrintsOfInput}
+use Rattle.plain_commands.specs.Plain.{MatchesRead, Plain, PrintsOf, Reported, status_if, readings, InputIsDue}
 use Rattle.plain_commands.specs.Printed.{IsPrinted}
 use Rattle.site_reports.specs.Readings.{CommandOutside, Reading, File, Input, AreRead, IsRead, StopsLong, has_file}
 use Rattle.site_reports.specs.declared.report.Report.{Report}
-use Rattle.plain_commands.specs.declared.plain.PlainEnd.{PlainEnd}
-use Rattle.plain_commands.specs.declared.plain.PlainEnd.TheVariants as end
 use Rattle.plain_commands.specs.declared.play.Ending.TheVariants as ending
 use Rattle.plain_commands.specs.declared.play.Output.{Output}
 
@@ -64,21 +59,6 @@ pub match_due : (outside : CommandOutside) (workers map : List ℕ) (verbose : B
     → InputIsDue outside (order.Match workers map verbose)
 match_due outside workers map verbose text rules first second = (refl, (text ∷ rules ∷ [], (first, (second, tt))))
 
--- what is due by an order is due by its words
-pub input_by : (words : List (List ℕ)) (o : Order) (outside : CommandOutside) (same : Type 0) → order_of words ≡ Some o
-    → same ⊎ InputIsDue outside o → same ⊎ IsInputDue words outside
-input_by words o outside same meant (inl kept) = inl kept
-input_by words o outside same meant (inr due) = inr (o, meant, due)
-
-pub format_by : (words : List (List ℕ)) (o : Order) (same : Type 0) → order_of words ≡ Some o → same ⊎ HasFormat o → same ⊎ IsFormatDue words
-format_by words o same meant (inl kept) = inl kept
-format_by words o same meant (inr due) = inr (o, meant, due)
-
-pub files_by : (words : List (List ℕ)) (o : Order) (same : Type 0) → order_of words ≡ Some o
-    → same ⊎ (has_file (readings o) ≡ true) → same ⊎ AreFilesDue words
-files_by words o same meant (inl kept) = inl kept
-files_by words o same meant (inr due) = inr (o, meant, due)
-
 -- both files were read, and then the paths
 pub then_input : (outside : CommandOutside) (verbose : Bool) (w m workers map out : List ℕ) (status : ℕ) → IsRead outside (File w) workers → IsRead outside (File m) map
     → PrintsOf outside (Input ∷ []) (MatchesRead workers map verbose) out status → Plain outside (order.Match w m verbose) out status
@@ -91,24 +71,6 @@ pub match_ok : {E : Type 0} (outside : CommandOutside) (verbose : Bool) (w m wor
     → IfOk result (λ o. Plain outside (order.Match w m verbose) o.text (status_of o.ending))
 match_ok outside verbose w m workers map first second (Ok o) says = then_input outside verbose w m workers map o.text (status_of o.ending) first second (says outside.files)
 match_ok outside verbose w m workers map first second (Err e) says = tt
-
--- ---- how a plain command ends
-
--- an order that plain words are is built
-pub built_by : (words : List (List ℕ)) (o : Order) → order_of words ≡ Some o → is_plain words ≡ true → is_built (command_in o) ≡ true
-built_by words o meant plain = subst (λ (x : Option Order). is_plain_command (option_map command_in x) ≡ true) meant plain
-
--- what is answered to an order is answered to its words
-pub ends_by : (words : List (List ℕ)) (o : Order) (s n : PlainSide) (ended : PlainEnd) → order_of words ≡ Some o → is_plain words ≡ true
-    → AnswersOrder o s n ended → EndsSo words s n ended
-ends_by words o s n end.Done meant plain answers = (plain, answers words meant)
-ends_by words o s n end.Bad meant plain answers = (plain, answers words meant)
-ends_by words o s n end.NoCommand meant plain answers = absurd (answers words meant)
-ends_by words o s n end.Refused meant plain answers = (plain, answers words meant)
-ends_by words o s n end.Running meant plain answers = (plain, answers words meant)
-ends_by words o s n end.InputFault meant plain answers = (plain, answers words meant)
-ends_by words o s n end.OutputFault meant plain answers = (plain, answers words meant)
-ends_by words o s n end.NoMemory meant plain answers = (plain, answers words meant)
 
 -- ---- what is answered to texts that are read, and to one that is too long
 

@@ -1,6 +1,5 @@
 -- How a plain command ends.
-use Rattle.std.specs.Prelude.{◌≡◌, ℕ, true, false, ◌⊎◌, List, [], ◌∷◌, Option, Some}
-use Rattle.jk_cli.specs.Orders.{order_of}
+use Rattle.std.specs.Prelude.{◌≡◌, ℕ, true, false, ◌⊎◌, List, [], ◌∷◌, Option}
 use Rattle.jk_cli.specs.declared.order.Order.{Order}
 use Rattle.jk_io.specs.Told.{appended, PutsFront, Rose}
 use Rattle.jk_io.specs.declared.traits.streams.Meanings.{Ghosts}
@@ -67,28 +66,24 @@ plain_side of_files of_input of_output files input out = record {
 }
 
 -- What each end says of a command that is built.
-abbrev pub AnswersSo : (words : List (List ℕ)) → (s n : PlainSide) → PlainEnd → Type 0
-AnswersSo words s n end.Done = Prints words s.outside s.sent n.sent 0
-AnswersSo words s n end.Bad = Prints words s.outside s.sent n.sent 1
-AnswersSo words s n end.NoCommand = ⊥
-AnswersSo words s n end.Refused = Prints words s.outside s.sent n.sent 3
-AnswersSo words s n end.Running = (n.sent ≡ s.sent) × EndsWith words s.outside 4
-AnswersSo words s n end.InputFault = (n.sent ≡ s.sent) × ReadFails s.faults n.faults
-AnswersSo words s n end.OutputFault = PrintsFront words s.outside s.sent n.sent × Rose s.faults.output n.faults.output
-AnswersSo words s n end.NoMemory = (n.sent ≡ s.sent) ⊎ PrintsFront words s.outside s.sent n.sent
+abbrev pub AnswersSo : (command : Order) → (s n : PlainSide) → PlainEnd → Type 0
+AnswersSo command s n end.Done = Prints command s.outside s.sent n.sent 0
+AnswersSo command s n end.Bad = Prints command s.outside s.sent n.sent 1
+AnswersSo command s n end.NoCommand = ⊥
+AnswersSo command s n end.Refused = Prints command s.outside s.sent n.sent 3
+AnswersSo command s n end.Running = (n.sent ≡ s.sent) × EndsWith command s.outside 4
+AnswersSo command s n end.InputFault = (n.sent ≡ s.sent) × ReadFails s.faults n.faults
+AnswersSo command s n end.OutputFault = PrintsFront command s.outside s.sent n.sent × Rose s.faults.output n.faults.output
+AnswersSo command s n end.NoMemory = (n.sent ≡ s.sent) ⊎ PrintsFront command s.outside s.sent n.sent
 
--- What each end says of an order, by whichever words it was given.
-abbrev pub AnswersOrder : Order → (s n : PlainSide) → PlainEnd → Type 0
-AnswersOrder o s n ended = (words : List (List ℕ)) → order_of words ≡ Some o → AnswersSo words s n ended
-
--- What each end says.
-abbrev pub EndsSo : (words : List (List ℕ)) → (s n : PlainSide) → PlainEnd → Type 0
-EndsSo words s n end.NoCommand = (is_plain words ≡ false) × (n.sent ≡ s.sent)
-EndsSo words s n ended = (is_plain words ≡ true) × AnswersSo words s n ended
+-- What each end says of an order.
+abbrev pub EndsSo : (command : Order) → (s n : PlainSide) → PlainEnd → Type 0
+EndsSo command s n end.NoCommand = (is_plain command ≡ false) × (n.sent ≡ s.sent)
+EndsSo command s n ended = (is_plain command ≡ true) × AnswersSo command s n ended
 
 -- Why a command ends with status 4: a read of the files or of the input failed, or a front that was told to stop may still run.
-abbrev pub IsInputFault : (words : List (List ℕ)) → (s n : PlainSide) → Type 0
-IsInputFault words s n = Rose s.faults.files n.faults.files ⊎ Rose s.faults.input n.faults.input ⊎ EndsWith words s.outside 4
+abbrev pub IsInputFault : (command : Order) → (s n : PlainSide) → Type 0
+IsInputFault command s n = Rose s.faults.files n.faults.files ⊎ Rose s.faults.input n.faults.input ⊎ EndsWith command s.outside 4
 
 -- What is printed of files alone, whatever the input.
 abbrev pub PrintsOfFiles : Option (List (List ℕ × List ℕ)) → List Reading → (List (List ℕ) → List ℕ → ℕ → Type 0) → Output → Type 0

@@ -1,10 +1,7 @@
--- The plain commands: their words, what they read, and what they print.
+-- The plain commands: which orders they are, what they read, and what they print.
 use Rattle.std.specs.Prelude.{◌≡◌, ℕ, Bool, true, false, ◌⊎◌, List, [], ◌∷◌, Option, Some, None, codes, if◌then◌else◌}
 use Rattle.std.specs.Str.{bytes_eq}
 use Rattle.jk_io.specs.Told.{appended, PutsFront}
-use Rattle.jk_cli.specs.Orders.{command_of, order_of}
-use Rattle.jk_cli.specs.declared.name.CommandName.{CommandName}
-use Rattle.jk_cli.specs.declared.name.CommandName.TheVariants as name
 use Rattle.jk_cli.specs.declared.order.Order.{Order}
 use Rattle.jk_cli.specs.declared.order.Order.TheVariants as order
 use Rattle.play_script.specs.Play.{PlaysScript}
@@ -15,27 +12,19 @@ use Rattle.plain_commands.specs.Logged.{RefusesFormat}
 use Rattle.site_reports.specs.Reports.{ReportsConfig, ReportsMatches, ReportsSite}
 use Rattle.plain_commands.specs.Checked.{ChecksText}
 use Rattle.plain_commands.specs.FollowedTexts.{FollowsText}
-use Rattle.site_reports.specs.Readings.{CommandOutside, Reading, File, Input, AreRead, StopsLong, has_file, has_input, before_input}
+use Rattle.site_reports.specs.Readings.{CommandOutside, Reading, File, Input, AreRead, StopsLong, has_input, before_input}
 
--- The plain commands that are built; each other command is none of them yet.
-abbrev pub is_built : CommandName → Bool
-is_built name.Play = true
-is_built name.Config = true
-is_built name.Match = true
-is_built name.Dry = true
-is_built name.Check = true
-is_built name.Follow = true
-is_built name.Log = true
-is_built name.Stop = true
-is_built command = false
-
-abbrev pub is_plain_command : Option CommandName → Bool
-is_plain_command None = false
-is_plain_command (Some command) = is_built command
-
--- The words are a plain command that is built, with its words and options.
-abbrev pub is_plain : List (List ℕ) → Bool
-is_plain words = is_plain_command (command_of words)
+-- The plain commands that are built; each other order is none of them.
+abbrev pub is_plain : Order → Bool
+is_plain order.Play = true
+is_plain (order.Config workers map) = true
+is_plain (order.Match workers map verbose) = true
+is_plain (order.Dry request reply site) = true
+is_plain order.Check = true
+is_plain order.Follow = true
+is_plain (order.Log format request reply workers map) = true
+is_plain (order.Stop path) = true
+is_plain other = false
 
 -- What a command reads, in the order of its words, and its input last.
 abbrev pub readings : Order → List Reading
@@ -56,22 +45,10 @@ abbrev pub InputIsDue : CommandOutside → Order → Type 0
 InputIsDue outside o =
     (has_input (readings o) ≡ true) × ((texts : List (List ℕ)) × AreRead outside (before_input (readings o)) texts)
 
--- The words are a command whose input is due.
-abbrev pub IsInputDue : (words : List (List ℕ)) → CommandOutside → Type 0
-IsInputDue words outside = (o : Order) × (order_of words ≡ Some o) × InputIsDue outside o
-
--- The words are a command that reads files.
-abbrev pub AreFilesDue : (words : List (List ℕ)) → Type 0
-AreFilesDue words = (o : Order) × (order_of words ≡ Some o) × (has_file (readings o) ≡ true)
-
 -- A log's format is one; of other commands nothing is asked.
 abbrev pub HasFormat : Order → Type 0
 HasFormat (order.Log format request reply workers map) = (parts : List Part) × IsFormat format parts
 HasFormat other = Unit {0}
-
--- The words are a command, and if that is `log`, its format is one.
-abbrev pub IsFormatDue : (words : List (List ℕ)) → Type 0
-IsFormatDue words = (o : Order) × (order_of words ≡ Some o) × HasFormat o
 
 -- The status of a report.
 abbrev pub status_if : (refused : Bool) → ℕ
@@ -136,25 +113,19 @@ Plain outside (order.Log format request reply workers map) out status =
     PrintsLog outside format (File request ∷ File reply ∷ File workers ∷ File map ∷ []) out status
 Plain outside o out status = PrintsOf outside (readings o) (Answers o) out status
 
--- Just what the words' command prints was written.
-pub record Prints (words : List (List ℕ)) (outside : CommandOutside) (sent sent_now : Option (List ℕ)) (status : ℕ) : Type 0 where
-  pub command : Order
-  pub meant : order_of words ≡ Some command
+-- Just what the command prints was written.
+pub record Prints (command : Order) (outside : CommandOutside) (sent sent_now : Option (List ℕ)) (status : ℕ) : Type 0 where
   pub text : List ℕ
   pub plain : Plain outside command text status
   pub written : sent_now ≡ appended sent text
 
--- The words' command ends with this status, of what it read.
-pub record EndsWith (words : List (List ℕ)) (outside : CommandOutside) (status : ℕ) : Type 0 where
-  pub command : Order
-  pub meant : order_of words ≡ Some command
+-- The command ends with this status, of what it read.
+pub record EndsWith (command : Order) (outside : CommandOutside) (status : ℕ) : Type 0 where
   pub text : List ℕ
   pub plain : Plain outside command text status
 
--- A front of what the words' command prints was written.
-pub record PrintsFront (words : List (List ℕ)) (outside : CommandOutside) (sent sent_now : Option (List ℕ)) : Type 0 where
-  pub command : Order
-  pub meant : order_of words ≡ Some command
+-- A front of what the command prints was written.
+pub record PrintsFront (command : Order) (outside : CommandOutside) (sent sent_now : Option (List ℕ)) : Type 0 where
   pub text : List ℕ
   pub status : ℕ
   pub plain : Plain outside command text status

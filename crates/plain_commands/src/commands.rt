@@ -1,11 +1,10 @@
 //! What each plain command prints of what it reads.
 ghost use Rattle.std.specs.Prelude.{◌≡◌, ◌≤◌, ◌⊎◌, [], ◌∷◌, length, Some, None, true, codes, IfOk, IsErrOf};
-ghost use Rattle.jk_cli.specs.Names.{command_in};
 ghost use Rattle.jk_cli.specs.declared.order.Order.TheVariants as order;
 ghost use Rattle.jk_io.specs.Told.{Rose};
 ghost use Rattle.plain_commands.specs.Causes.{IsCaused};
 ghost use Rattle.plain_commands.specs.Endings.{PlainOfFiles, PlainOfInput, PrintsOfInput, status_of};
-ghost use Rattle.plain_commands.specs.Plain.{is_built, readings, HasFormat, InputIsDue, MatchesRead, Plain, StopsFront, status_if};
+ghost use Rattle.plain_commands.specs.Plain.{is_plain, readings, HasFormat, InputIsDue, MatchesRead, Plain, StopsFront, status_if};
 ghost use Rattle.plain_commands.specs.Printed.{IsPrinted};
 ghost use Rattle.site_reports.specs.Readings.{has_file, Input};
 ghost use Rattle.plain_commands.specs.declared.play.Ending.TheVariants as Ends;
@@ -213,7 +212,7 @@ pub(crate) fn answer<F: Files, S: Source>(
     files: &mut F,
     input: &mut S,
 ) -> Result<Output, IoError>
-    requires built { is_built (command_in order.now) ≡ true }
+    requires built { is_plain order.now ≡ true }
     ensures ok { IfOk result (λ o. Plain (record { files = F.files files.old; incoming = S.incoming input.old })
         order.now o.text (status_of o.ending)) }
     ensures failed { IsErrOf result IoError.Failed → Rose (F.faults files.old) (F.faults files.new) ⊎ Rose (S.faults input.old) (S.faults input.new) }

@@ -1,15 +1,14 @@
 //! The plain commands: those that wait for nobody but their files, input and output.
 ghost use Rattle.std.specs.Prelude.{◌≡◌, ◌↔◌, ◌⊎◌, true, false};
-ghost use Rattle.jk_cli.specs.Names.{command_in};
 ghost use Rattle.jk_io.specs.Told.{Rose};
-ghost use Rattle.plain_commands.specs.Endings.{number_of, plain_side, AnswersOrder, EndsSo, IsInputFault, Writes};
-ghost use Rattle.plain_commands.specs.Plain.{is_built, is_plain, readings, AreFilesDue, HasFormat, IsFormatDue, InputIsDue, IsInputDue, Prints, PrintsFront};
+ghost use Rattle.plain_commands.specs.Endings.{number_of, plain_side, EndsSo, IsInputFault, Writes};
+ghost use Rattle.plain_commands.specs.Plain.{is_plain, readings, HasFormat, InputIsDue, Prints, PrintsFront};
 ghost use Rattle.site_reports.specs.Readings.{has_file};
 
 use crate::commands::answer;
 use crate::play::{Ending, Output};
-use jk_cli::{CommandName, Order, command_of, read_words};
-use jk_io::{Bytes, Files, IoError, Sink, Source, write_all};
+use jk_cli::Order;
+use jk_io::{Files, IoError, Sink, Source, write_all};
 use std::alloc::Global;
 
 /// How a plain command ends.
@@ -43,30 +42,20 @@ impl PlainEnd {
     }
 }
 
-// Whether a command is a plain one that is built.
-fn is_built(command: CommandName) -> bool
-    ensures { result ≡ is_built command }
+/// Whether an order is a plain command that is built.
+fn is_plain(order: &Order) -> bool
+    ensures { result ≡ is_plain order.now }
 {
-    match command {
-        CommandName::Play
-        | CommandName::Dry
-        | CommandName::Config
-        | CommandName::Match
-        | CommandName::Check
-        | CommandName::Follow
-        | CommandName::Log
-        | CommandName::Stop => true,
+    match order {
+        Order::Play
+        | Order::Dry { .. }
+        | Order::Config { .. }
+        | Order::Match { .. }
+        | Order::Check
+        | Order::Follow
+        | Order::Log { .. }
+        | Order::Stop { .. } => true,
         _ => false,
-    }
-}
-
-/// Whether the words are a plain command that is built.
-fn is_plain(words: &[Bytes]) -> bool
-    ensures { result ≡ is_plain words.now }
-{
-    match command_of(words) {
-        None => false,
-        Some(command) => is_built(command),
     }
 }
 
@@ -88,21 +77,23 @@ fn finish<O: Sink>(out: &mut O, output: &Output) -> PlainEnd
 }
 
 // Does a command that is built.
-fn answer_end<F: Files, S: Source, O: Sink>(
+fn end_of<F: Files, S: Source, O: Sink>(
     alloc: Global,
     order: &Order,
     files: &mut F,
     input: &mut S,
     out: &mut O,
 ) -> PlainEnd
-    requires built { is_built (command_in order.now) ≡ true }
-    ensures answers { let at = plain_side F.Files S.Meanings O.Meanings in
-        AnswersOrder order.now (at files.old input.old out.old) (at files.new input.new out.new) result }
+    ensures ends { let at = plain_side F.Files S.Meanings O.Meanings in
+        EndsSo order.now (at files.old input.old out.old) (at files.new input.new out.new) result }
     ensures files { (files.new ≡ files.old) ⊎ (has_file (readings order.now) ≡ true) }
     ensures format { (files.new ≡ files.old) ⊎ HasFormat order.now }
     ensures input { (input.new ≡ input.old)
         ⊎ InputIsDue (record { files = F.files files.old; incoming = S.incoming input.old }) order.now }
 {
+    if !is_plain(order) {
+        return PlainEnd::NoCommand;
+    }
     match answer(alloc, order, files, input) {
         Ok(output) => finish(out, &output),
         Err(IoError::Failed) => PlainEnd::InputFault,
@@ -113,37 +104,10 @@ fn answer_end<F: Files, S: Source, O: Sink>(
 /// Lets a value go. Where it is large, the check of a function that calls this doesn't write its drop out.
 pub(crate) fn let_go<T: Drop>(_it: T) {}
 
-fn end_of<F: Files, S: Source, O: Sink>(
-    alloc: Global,
-    words: &[Bytes],
-    files: &mut F,
-    input: &mut S,
-    out: &mut O,
-) -> PlainEnd
-    ensures ends { let at = plain_side F.Files S.Meanings O.Meanings in
-        EndsSo words.now (at files.old input.old out.old) (at files.new input.new out.new) result }
-    ensures files { (files.new ≡ files.old) ⊎ AreFilesDue words.now }
-    ensures format { (files.new ≡ files.old) ⊎ IsFormatDue words.now }
-    ensures input { (input.new ≡ input.old)
-        ⊎ IsInputDue words.now (record { files = F.files files.old; incoming = S.incoming input.old }) }
-{
-    if !is_plain(words) {
-        return PlainEnd::NoCommand;
-    }
-    match read_words(alloc, words) {
-        Ok(order) => {
-            let end = answer_end(alloc, &order, files, input, out);
-            let_go(order);
-            end
-        }
-        Err(_) => PlainEnd::NoMemory,
-    }
-}
-
 /// Does a plain command, and answers its status.
 pub fn run_plain<F: Files, S: Source, O: Sink>(
     alloc: Global,
-    words: &[Bytes],
+    order: &Order,
     files: &mut F,
     input: &mut S,
     out: &mut O,
@@ -151,36 +115,36 @@ pub fn run_plain<F: Files, S: Source, O: Sink>(
     ensures statuses { (result ≡ 0) ⊎ (result ≡ 1) ⊎ (result ≡ 2) ⊎ (result ≡ 3) ⊎ (result ≡ 4) ⊎ (result ≡ 5) ⊎ (result ≡ 6) }
 
     // Done, a bad line that was found, or a file or an input that is refused: just what the command prints was written.
-    ensures done { result ≡ 0 → Prints words.now (record { files = F.files files.old; incoming = S.incoming input.old })
+    ensures done { result ≡ 0 → Prints order.now (record { files = F.files files.old; incoming = S.incoming input.old })
         (O.sent out.old) (O.sent out.new) 0 }
-    ensures bad { result ≡ 1 → Prints words.now (record { files = F.files files.old; incoming = S.incoming input.old })
+    ensures bad { result ≡ 1 → Prints order.now (record { files = F.files files.old; incoming = S.incoming input.old })
         (O.sent out.old) (O.sent out.new) 1 }
-    ensures refused { result ≡ 3 → Prints words.now (record { files = F.files files.old; incoming = S.incoming input.old })
+    ensures refused { result ≡ 3 → Prints order.now (record { files = F.files files.old; incoming = S.incoming input.old })
         (O.sent out.old) (O.sent out.new) 3 }
 
     // Files are read where the command has some, of `log` once its format is one, and of the input nothing unless each of its files is there and not too long.
-    ensures files { (files.new ≡ files.old) ⊎ AreFilesDue words.now }
-    ensures format { (files.new ≡ files.old) ⊎ IsFormatDue words.now }
+    ensures files { (files.new ≡ files.old) ⊎ (has_file (readings order.now) ≡ true) }
+    ensures format { (files.new ≡ files.old) ⊎ HasFormat order.now }
     ensures input { (input.new ≡ input.old)
-        ⊎ IsInputDue words.now (record { files = F.files files.old; incoming = S.incoming input.old }) }
+        ⊎ InputIsDue (record { files = F.files files.old; incoming = S.incoming input.old }) order.now }
 
-    // No plain command that is built (`play`, `dry`, `config`, `match`, `check`, `log`, `follow` and `stop`), exactly by the words.
-    ensures no_command { (result ≡ 2) ↔ (is_plain words.now ≡ false) }
+    // No plain command that is built (`play`, `dry`, `config`, `match`, `check`, `log`, `follow` and `stop`), exactly by the order.
+    ensures no_command { (result ≡ 2) ↔ (is_plain order.now ≡ false) }
     ensures no_words { result ≡ 2 → O.sent out.new ≡ O.sent out.old }
 
     // Only where the faults of the files or of the input rose, or where `stop` was answered by a front that may still run.
     ensures input_fault { let at = plain_side F.Files S.Meanings O.Meanings in
-        result ≡ 4 → IsInputFault words.now (at files.old input.old out.old) (at files.new input.new out.new) }
+        result ≡ 4 → IsInputFault order.now (at files.old input.old out.old) (at files.new input.new out.new) }
     ensures nothing { result ≡ 4 → O.sent out.new ≡ O.sent out.old }
 
     // Only where the output's faults rose.
     ensures output_fault { result ≡ 5 → Rose (O.faults out.old) (O.faults out.new) }
-    ensures part { result ≡ 5 → PrintsFront words.now (record { files = F.files files.old; incoming = S.incoming input.old })
+    ensures part { result ≡ 5 → PrintsFront order.now (record { files = F.files files.old; incoming = S.incoming input.old })
         (O.sent out.old) (O.sent out.new) }
 
     // Want of memory, before anything was written or in a write.
     ensures wanting { result ≡ 6 → (O.sent out.new ≡ O.sent out.old)
-        ⊎ PrintsFront words.now (record { files = F.files files.old; incoming = S.incoming input.old }) (O.sent out.old) (O.sent out.new) }
+        ⊎ PrintsFront order.now (record { files = F.files files.old; incoming = S.incoming input.old }) (O.sent out.old) (O.sent out.new) }
 {
-    end_of(alloc, words, files, input, out).status()
+    end_of(alloc, order, files, input, out).status()
 }

@@ -1,47 +1,32 @@
 //! `serve`: clients served over the balancers of a site.
-ghost use Rattle.std.specs.Prelude.{◌≡◌, ◌≤◌, [], length};
+ghost use Rattle.std.specs.Prelude.{◌≡◌, ◌≤◌, [], IsSome, Some, length};
 ghost use Rattle.std.specs.Option.{option_copied};
 ghost use Rattle.jk_io.specs.Told.{HasCause};
 ghost use Rattle.request_log.specs.Formats.{refusal_line as line_of_refusal};
-ghost use Rattle.jk_server.specs.Commands.{cut_at, format_text as text_of_format, telling, ServesOrder, WorksSite, WritesLine};
+ghost use Rattle.jk_server.specs.Commands.{cut_at, format_text as text_of_format, telling, wants_by, ServesOrder, WorksSite, WritesLine};
 ghost use Rattle.jk_server.specs.Ends.{end_of_run, returned};
 ghost use Rattle.jk_server.specs.Watches.{watch_plan};
+ghost use Rattle.gear_parts.specs.Wants.{wants_of};
 ghost use Rattle.gear_parts.specs.Worlds.{HandsAndTakes, world_side};
-ghost use Rattle.jk_server.specs.declared.workers.TheConstants.{MAX_WORKERS};
 
 use crate::orders::ends::{CommandEnd, NO_MEMORY, OUTPUT_FAULT, REFUSED, end_by, end_of_run};
 use crate::runs::ends::{Closing, SiteRun};
 use crate::runs::parts::{SitePlan, WatchPlan};
 use crate::runs::serve::serve_gears;
 use gear_parts::{GearOf, GearOrder, ToldWorld, World, give_back, log_gears, take_gears};
+use jk_cli::ServeOrder;
 use jk_io::{Bytes, Door, Files, IoError, NoMemory, Sink, write_all};
 use request_log::{Format, FormatError, read_format, refusal_line};
+use site_config::Config;
 use site_reports::{Judged, ReadSite, read_site};
 use std::alloc::Global;
 use std::marker::Brand;
 use std::sync::Wait;
 use std::thread::Threads;
 
-/// What `serve` is asked for.
-#[derive(Clone, Copy)]
-pub struct ServeOrder<'a> {
-    pub workers: &'a Bytes,
-    pub map: &'a Bytes,
-    /// How many workers there are, each with a gear.
-    pub threads: u32,
-    /// The number of kept entries at which a journal is cut.
-    pub cut: u32,
-    /// The format of the logs, where it is written.
-    pub format: Option<&'a Bytes>,
-    /// How idle links are looked after, if they are.
-    pub watch: Option<WatchPlan>,
-    /// What the gears are for, but for their site.
-    pub asked: GearOrder<'a>,
-}
-
 /// The format of the logs, as it is written.
-fn format_text<'a>(text: Option<&'a Bytes>) -> &'a [u8]
-    ensures { result.now ≡ text_of_format (option_copied text.entry) }
+fn format_text(text: &Option<Bytes>) -> &[u8]
+    ensures { result.now ≡ text_of_format text.now }
 {
     match text {
         Some(text) => text.as_slice(),
@@ -70,7 +55,7 @@ pub fn cut_at(most: Option<u64>) -> u32
 }
 
 /// How idle links are looked after, by the words that say so; where no looks are given a link may stay idle for ten.
-pub fn watch_plan(seconds: Option<u64>, looks: Option<u32>) -> Option<WatchPlan>
+fn watch_plan(seconds: Option<u64>, looks: Option<u32>) -> Option<WatchPlan>
     ensures { result ≡ watch_plan seconds looks }
 {
     Some(WatchPlan {
@@ -118,36 +103,53 @@ fn settle<W: World>(world: &mut W, run: SiteRun<Brand, GearOf<W>>) -> CommandEnd
     end_of_run(workers.into_vec(), closing)
 }
 
+/// What the gears are asked for, over this configuration.
+fn gear_order<'a>(order: &'a ServeOrder, cfg: &'a Config) -> GearOrder<'a>
+    ensures wanted { wants_of result ≡ wants_by order.now }
+    ensures site { (option_copied result.cfg ≡ Some cfg.now) × IsSome result.cfg }
+{
+    GearOrder {
+        address: &order.address,
+        clients: order.clients,
+        journal: order.journal.as_ref(),
+        log: order.log.as_ref(),
+        cfg: Some(cfg),
+        limits: order.limits,
+        control: order.control.as_ref(),
+        grace: order.grace,
+    }
+}
+
 /// Serves the clients of a site by a worker for each gear, and gives the gears back.
 fn serve_site<W: World, R: Threads + Wait + Sync>(
     rt: &R,
     alloc: Global,
-    order: ServeOrder<'_>,
+    order: &ServeOrder,
     format: &Format,
     site: &ReadSite,
     world: &mut W,
 ) -> CommandEnd<Brand>
 where
     <W::D as Door>::L: Send,
-    requires threads { (1 ≤ order.threads) × (order.threads ≤ MAX_WORKERS) }
     ensures { WorksSite ⟦<W as ToldWorld>⟧.told
-        order.entry format.now site.now world.old world.new result }
+        order.now format.now site.now world.old world.new result }
 {
-    let asked = order.asked.over(&site.cfg);
-    let gears = match take_gears(alloc, world, order.threads, &asked) {
+    let threads = order.threads.get();
+    let asked = gear_order(order, &site.cfg);
+    let gears = match take_gears(alloc, world, threads, &asked) {
         Ok(gears) => gears,
         Err(error) => return end_by(error),
     };
-    let gears = match log_gears(alloc, world, order.threads, order.asked.log, gears) {
+    let gears = match log_gears(alloc, world, threads, asked.log, gears) {
         Ok(gears) => gears,
         Err(error) => return end_by(error),
     };
     let plan = SitePlan {
         cfg: &site.cfg,
         map: &site.map,
-        cut: order.cut,
+        cut: cut_at(order.cut),
         format,
-        watch: order.watch,
+        watch: watch_plan(order.watch, order.idle),
     };
     match serve_gears(rt, alloc, plan, gears) {
         Ok(ran) => settle(world, ran),
@@ -159,23 +161,22 @@ where
 pub fn serve<F: Files, O: Sink, W: World, R: Threads + Wait + Sync>(
     rt: &R,
     alloc: Global,
-    order: ServeOrder<'_>,
+    order: &ServeOrder,
     files: &mut F,
     out: &mut O,
     world: &mut W,
 ) -> CommandEnd<Brand>
 where
     <W::D as Door>::L: Send,
-    requires threads { (1 ≤ order.threads) × (order.threads ≤ MAX_WORKERS) }
     ensures serves { ServesOrder (telling F.Files O.Meanings ⟦<W as ToldWorld>⟧.told)
-        order.entry (files.old, out.old, world.old) (files.new, out.new, world.new) result }
+        order.now (files.old, out.old, world.old) (files.new, out.new, world.new) result }
 {
-    let format = match read_format(alloc, format_text(order.format)) {
+    let format = match read_format(alloc, format_text(&order.format)) {
         Ok(format) => format,
         Err(FormatError::BadFormat { at }) => return refuse_format(alloc, at, out),
         Err(FormatError::NoMemory) => return CommandEnd::Status(NO_MEMORY),
     };
-    match read_site(alloc, files, order.workers, order.map) {
+    match read_site(alloc, files, &order.workers, &order.map) {
         Ok(Judged::Site(site)) => serve_site(rt, alloc, order, &format, &site, world),
         Ok(Judged::Refused(line)) => refuse(out, &line),
         Err(error) => end_by(error),

@@ -1,58 +1,54 @@
-use Rattle.std.proofs.Common.{inl, refl, sym, ◌∙◌}
-use Rattle.jk_commands.proofs.CommandLaws.{not_both, not_served, serving_command, status_is}
+use Rattle.std.proofs.Common.{None, refl}
+use Rattle.jk_commands.proofs.CommandLaws.{contain_done, contain_keeps, serve_done, serve_lose, served_command}
 use Rattle.jk_commands.proofs.command.run_jkd.Goals as goal
 
--- ---- words that ask for workers or threads
+-- ---- `serve`
 
-pub returns-then-is_serving-clause-serves : goal.returns-then-is_serving-clause-serves
-returns-then-is_serving-clause-serves g c = c.do_words.ensures.serves
+pub returns-in-Ok-Serve-clause-serves : goal.returns-in-Ok-Serve-clause-serves
+returns-in-Ok-Serve-clause-serves g c =
+    rw (c.in-Ok-Serve.is, c.in-Ok-Serve.field-0-is) (λ served incoming. record {
+      by = c.serve.result;
+      said = c.serve.ensures.serves incoming;
+      turned = c.from.ensures;
+    })
 
-pub returns-then-is_serving-clause-plain : goal.returns-then-is_serving-clause-plain
-returns-then-is_serving-clause-plain g c none = absurd (not_both c.args.words.now (sym c.is_serving.ensures ∙ c.if-is_serving.true) none)
+pub returns-in-Ok-Serve-clause-no_command : goal.returns-in-Ok-Serve-clause-no_command
+returns-in-Ok-Serve-clause-no_command g c = (
+  λ two. absurd (serve_done _ _ _ _ _ _ _ _ _ c.serve.result _ (c.serve.ensures.serves None) c.from.ensures two),
+  λ none. absurd (served_command _ _ _ c.in-Ok-Serve.is c.in-Ok-Serve.field-0-is refl none),
+)
 
-pub returns-then-is_serving-clause-world : goal.returns-then-is_serving-clause-world
-returns-then-is_serving-clause-world g c none = absurd (not_both c.args.words.now (sym c.is_serving.ensures ∙ c.if-is_serving.true) none)
+pub returns-in-Ok-Serve-clause-nothing : goal.returns-in-Ok-Serve-clause-nothing
+returns-in-Ok-Serve-clause-nothing g c two =
+    absurd (serve_done _ _ _ _ _ _ _ _ _ c.serve.result _ (c.serve.ensures.serves None) c.from.ensures two)
 
-pub returns-then-is_serving-clause-files : goal.returns-then-is_serving-clause-files
-returns-then-is_serving-clause-files g c = c.do_words.ensures.files
+pub returns-in-Ok-Serve-clause-output_fault : goal.returns-in-Ok-Serve-clause-output_fault
+returns-in-Ok-Serve-clause-output_fault g c lost =
+    serve_lose _ _ _ _ _ _ _ _ _ c.serve.result _ (c.serve.ensures.serves None) c.from.ensures lost
 
-pub returns-then-is_serving-clause-input : goal.returns-then-is_serving-clause-input
-returns-then-is_serving-clause-input g c = inl refl
+-- ---- `container`
 
-pub returns-then-is_serving-clause-no_command : goal.returns-then-is_serving-clause-no_command
-returns-then-is_serving-clause-no_command g c =
-    let serving = sym c.is_serving.ensures ∙ c.if-is_serving.true in
-    (λ none. absurd (c.do_words.ensures.command none), λ none. absurd (serving_command c.args.words.now serving none))
+pub returns-in-Ok-Container-clause-serves : goal.returns-in-Ok-Container-clause-serves
+returns-in-Ok-Container-clause-serves g c =
+    rw (c.in-Ok-Container.is, c.in-Ok-Container.field-0-is) (λ served incoming. record {
+      by = c.contain.result;
+      said = record {
+        contained = rw (c.text.ensures.value, c.get.ensures.value, c.of_container.ensures.wanted) at c.contain.ensures.contains;
+        written = refl;
+      };
+      turned = c.from-in-Ok-Container.ensures;
+    })
 
-pub returns-then-is_serving-clause-nothing : goal.returns-then-is_serving-clause-nothing
-returns-then-is_serving-clause-nothing g c none = absurd (c.do_words.ensures.command none)
+pub returns-in-Ok-Container-clause-no_command : goal.returns-in-Ok-Container-clause-no_command
+returns-in-Ok-Container-clause-no_command g c = (
+  λ two. absurd (contain_done _ _ _ _ _ _ c.contain.result _ c.contain.ensures.contains c.from-in-Ok-Container.ensures two),
+  λ none. absurd (served_command _ _ _ c.in-Ok-Container.is c.in-Ok-Container.field-0-is refl none),
+)
 
-pub returns-then-is_serving-clause-output_fault : goal.returns-then-is_serving-clause-output_fault
-returns-then-is_serving-clause-output_fault g c = c.do_words.ensures.output_fault
+pub returns-in-Ok-Container-clause-nothing : goal.returns-in-Ok-Container-clause-nothing
+returns-in-Ok-Container-clause-nothing g c two =
+    absurd (contain_done _ _ _ _ _ _ c.contain.result _ c.contain.ensures.contains c.from-in-Ok-Container.ensures two)
 
--- ---- any other words
-
-pub returns-else-is_serving-clause-serves : goal.returns-else-is_serving-clause-serves
-returns-else-is_serving-clause-serves g c o meant served =
-    absurd (not_served c.args.words.now o (sym c.is_serving.ensures ∙ c.if-is_serving.false) meant served)
-
-pub returns-else-is_serving-clause-plain : goal.returns-else-is_serving-clause-plain
-returns-else-is_serving-clause-plain g c none = (c.do_plain.result, refl, c.do_plain.ensures.plain)
-
-pub returns-else-is_serving-clause-world : goal.returns-else-is_serving-clause-world
-returns-else-is_serving-clause-world g c none = refl
-
-pub returns-else-is_serving-clause-files : goal.returns-else-is_serving-clause-files
-returns-else-is_serving-clause-files g c = c.do_plain.ensures.files
-
-pub returns-else-is_serving-clause-input : goal.returns-else-is_serving-clause-input
-returns-else-is_serving-clause-input g c = c.do_plain.ensures.input
-
-pub returns-else-is_serving-clause-nothing : goal.returns-else-is_serving-clause-nothing
-returns-else-is_serving-clause-nothing g c none =
-    let two = status_is _ c.do_plain.result 2 refl none in
-    let kept = c.do_plain.ensures.nothing two in
-    (kept.0, kept.1, c.do_plain.ensures.plain.no_words two, refl)
-
-pub returns-else-is_serving-clause-output_fault : goal.returns-else-is_serving-clause-output_fault
-returns-else-is_serving-clause-output_fault g c lost = c.do_plain.ensures.plain.output_fault (status_is _ c.do_plain.result 5 refl lost)
+pub returns-in-Ok-Container-clause-output_fault : goal.returns-in-Ok-Container-clause-output_fault
+returns-in-Ok-Container-clause-output_fault g c lost =
+    absurd (contain_keeps _ _ _ _ _ _ c.contain.result _ c.contain.ensures.contains c.from-in-Ok-Container.ensures lost)

@@ -53,6 +53,3 @@ returns-in-Err-BadFormat g c = record {
 
 pub returns-in-Err-NoMemory : goal.returns-in-Err-NoMemory
 returns-in-Err-NoMemory g c = record { serves = λ incoming. NoFormat (record { status = refl; unread = refl; written = refl; world = refl }) }
-
-pub serve_site-requires-clause-threads : goal.serve_site-requires-clause-threads
-serve_site-requires-clause-threads g c = λ κs within. c.requires.threads

@@ -8,10 +8,11 @@ use Rattle.jk_server.proofs.ReturnLaws.{few_returned}
 use Rattle.jk_server.proofs.orders.serve.serve_site.Goals as goal
 
 pub returns-in-Err : goal.returns-in-Err
-returns-in-Err g c = works_err _ _ _ _ c.in-Err.error _ c.in-Err.ensures.refused c.in-Err.ensures.cause c.end_by.ensures
+returns-in-Err g c =
+    rw (← c.get-threads.ensures.value) (works_err _ _ _ _ c.in-Err.error _ c.in-Err.ensures.refused c.in-Err.ensures.cause c.end_by.ensures)
 
 pub take_gears-requires-clause-named : goal.take_gears-requires-clause-named
-take_gears-requires-clause-named g c κs within = λ some. c.over-asked.ensures.site.1
+take_gears-requires-clause-named g c κs within = λ some. c.gear_order-asked.ensures.site.1
 
 pub log_gears-requires-clause-out : goal.log_gears-requires-clause-out
 log_gears-requires-clause-out g c κs within = omega (arith, c.in-Ok.ensures.taken.counted, c.in-Ok.gears.ok.0)
@@ -21,14 +22,14 @@ log_gears-requires-clause-count g c κs within = c.in-Ok.ensures.count
 
 pub returns-in-Err-log_gears : goal.returns-in-Err-log_gears
 returns-in-Err-log_gears g c =
-    Ran (inl (lacks_log _ _ _ _ c.in-Ok.gears.items c.in-Err-log_gears.error _ c.in-Ok.ensures.taken (c.in-Ok.ensures.steady refl)
-    (sym c.in-Ok.gears.ok.0 ∙ c.in-Ok.ensures.count) c.in-Err-log_gears.ensures.refused c.in-Err-log_gears.ensures.cause c.end_by-in-Err-log_gears.ensures))
+    rw (← c.get-threads.ensures.value) (Ran (inl (lacks_log _ _ _ _ c.in-Ok.gears.items c.in-Err-log_gears.error _ c.in-Ok.ensures.taken (c.in-Ok.ensures.steady refl)
+    (sym c.in-Ok.gears.ok.0 ∙ c.in-Ok.ensures.count) c.in-Err-log_gears.ensures.refused c.in-Err-log_gears.ensures.cause c.end_by-in-Err-log_gears.ensures)))
 
 pub serve_gears-requires-clause-some : goal.serve_gears-requires-clause-some
-serve_gears-requires-clause-some g c κs within = some_asked _ _ c.in-Ok-log_gears.ensures.len c.requires.threads.0
+serve_gears-requires-clause-some g c κs within = some_asked _ _ c.in-Ok-log_gears.ensures.len c.get-threads.ensures.range.0
 
 pub serve_gears-requires-clause-few : goal.serve_gears-requires-clause-few
-serve_gears-requires-clause-few g c κs within = few_so _ _ _ c.in-Ok-log_gears.ensures.len c.requires.threads.1
+serve_gears-requires-clause-few g c κs within = few_so _ _ _ c.in-Ok-log_gears.ensures.len c.get-threads.ensures.range.1
 
 pub serve_gears-requires-clause-stands : goal.serve_gears-requires-clause-stands
 serve_gears-requires-clause-stands g c κs within = c.args.site.now.stands
@@ -40,8 +41,8 @@ pub returns-in-Err-serve_gears : goal.returns-in-Err-serve_gears
 returns-in-Err-serve_gears g c =
     let same = c.in-Ok-log_gears.ensures.same in
     let calm = c.in-Ok-log_gears.ensures.steady refl in
-    wants_gears _ _ _ _ c.in-Ok.gears.items (still_taken _ _ _ c.in-Ok.gears.items c.in-Ok.ensures.taken same.0 same.1 same.2 calm)
-    (sym c.in-Ok.gears.ok.0 ∙ c.in-Ok.ensures.count) (calm ∙ c.in-Ok.ensures.steady refl)
+    rw (← c.get-threads.ensures.value) (wants_gears _ _ _ _ c.in-Ok.gears.items (still_taken _ _ _ c.in-Ok.gears.items c.in-Ok.ensures.taken same.0 same.1 same.2 calm)
+    (sym c.in-Ok.gears.ok.0 ∙ c.in-Ok.ensures.count) (calm ∙ c.in-Ok.ensures.steady refl))
 
 pub settle-requires-clause-out : goal.settle-requires-clause-out
 settle-requires-clause-out g c κs within =
@@ -59,10 +60,10 @@ returns-in-Ok-serve_gears g c =
       gears = c.in-Ok.gears.items;
       begun = c.in-Ok-log_gears.gears.items;
       left = ran.gears.items;
-      count = sym c.in-Ok.gears.ok.0 ∙ c.in-Ok.ensures.count;
-      made = rw (ap (λ (w : GearWants). w.clients) c.over-asked.ensures.same) at c.in-Ok.ensures.made;
-      suited = rw (c.over-asked.ensures.same, c.over-asked.ensures.site.0) at c.in-Ok.ensures.suited;
-      logged = c.in-Ok-log_gears.ensures.given;
+      count = sym c.in-Ok.gears.ok.0 ∙ c.in-Ok.ensures.count ∙ c.get-threads.ensures.value;
+      made = rw (ap (λ (w : GearWants). w.clients) c.gear_order-asked.ensures.wanted) at c.in-Ok.ensures.made;
+      suited = rw (c.gear_order-asked.ensures.wanted, c.gear_order-asked.ensures.site.0) at c.in-Ok.ensures.suited;
+      logged = rw (ap (λ (w : GearWants). w.log) c.gear_order-asked.ensures.wanted) at c.in-Ok-log_gears.ensures.given;
       ends = ran.workers;
       closing = ran.closing;
       run = c.in-Ok-serve_gears.ensures.ran;
