@@ -4,6 +4,7 @@ use Rattle.std.specs.Option.{is_none, option_map}
 use Rattle.jk_cli.specs.Orders.{command_of}
 use Rattle.jk_cli.specs.declared.name.CommandName.{CommandName}
 use Rattle.jk_cli.specs.declared.name.CommandName.TheVariants as name
+use Rattle.remarks.specs.declared.ended.Ended.{Ended}
 use Rattle.remarks.specs.declared.input_seen.InputSeen.{InputSeen}
 use Rattle.remarks.specs.declared.read_file.ReadFile.{ReadFile}
 use Rattle.remarks.specs.declared.site.SitePlace.{SitePlace}
@@ -104,3 +105,8 @@ abbrev pub unread_text : Option (List ℕ) → (failed : Bool) → (reason : Lis
 unread_text (Some name) failed reason = codes "jkd: can't read " ++ name ++ codes ": " ++ reason ++ codes "\n"
 unread_text None true reason = codes "jkd: can't read standard input\n"
 unread_text None false reason = []
+
+-- what failed, of a command that ended with status 4
+abbrev pub fault_of : Ended → List ℕ
+fault_of ended =
+    fault_text (unended_name ended.words.now ended.reads.now) (unread_text (unread_name ended.reads.now) ended.input.failed ended.reason.now)

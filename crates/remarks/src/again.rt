@@ -9,9 +9,7 @@ ghost use Rattle.remarks.specs.Again.{IsLineTable, Says, is_again, is_before, is
 
 use crate::said_lines::said_at;
 use jk_io::NoMemory;
-use site_config::{
-    Directive, PropertyLine, directive_of, first_line, is_maintain_key, without_mark, worker_part,
-};
+use site_config::{Directive, PropertyLine, first_line, without_mark};
 use std::alloc::Global;
 use std::collections::HashMap;
 
@@ -28,13 +26,14 @@ fn is_single_directive(directive: Option<Directive>) -> bool
     }
 }
 
-/// Whether the last line of this key alone counts.
-fn is_single(key: &[u8]) -> bool
-    ensures { result ≡ is_single key.now }
+/// Whether the last line of this line's key alone counts.
+#[tactic(auto, using(crate::proofs::GivenLemmas::single_given))]
+fn is_single(entry: &PropertyLine<'_>) -> bool
+    ensures { result ≡ is_single entry.now.key.now }
 {
-    match worker_part(key) {
-        None => is_maintain_key(key),
-        Some((_, text)) => is_single_directive(directive_of(text)),
+    match entry.worker() {
+        None => entry.is_maintain(),
+        Some((_, directive)) => is_single_directive(directive),
     }
 }
 
@@ -43,7 +42,7 @@ fn put_line<'t>(table: &mut LineTable<'t>, entry: &PropertyLine<'t>) -> Result<(
     ensures { (ps : List Property) → IsLineTable table.old ps
         → OnOk result (IsLineTable table.new (ps ++ as_property entry.now ∷ [])) }
 {
-    if is_single(entry.key) {
+    if is_single(entry) {
         table.insert(entry.key, entry.line)?;
         Ok(())
     } else {

@@ -2,7 +2,7 @@
 ghost use Rattle.std.specs.Prelude.{◌≡◌, ◌≢◌, [], IfOk, IsOk, None, Some, true};
 ghost use Rattle.jk_io.specs.Told.{HasCause};
 ghost use Rattle.remarks.specs.Added.{AddsSaid, AddsText};
-ghost use Rattle.remarks.specs.Told.{IsLine, SaysEffects, SaysRefused, fault_text, too_long_text, unended_name, unread_name, unread_text};
+ghost use Rattle.remarks.specs.Told.{IsLine, SaysEffects, SaysRefused, fault_of, fault_text, too_long_text, unread_name, unread_text};
 
 use crate::input_seen::InputSeen;
 use crate::last_read::{long_file, unended_file, unread_file};
@@ -71,8 +71,7 @@ fn put_refusal<O: Sink + Drop>(
 
 /// What failed: a front that was asked to end answered otherwise, or a file can't be read.
 fn fault_of(alloc: Global, ended: &Ended<'_>) -> Result<Bytes, NoMemory>
-    ensures { IfOk result (λ said. said ≡ fault_text (unended_name ended.now.words.now ended.now.reads.now)
-        (unread_text (unread_name ended.now.reads.now) ended.now.input.failed ended.now.reason.now)) }
+    ensures { IfOk result (λ said. said ≡ fault_of ended.now) }
 {
     match unended_file(ended.words, ended.reads) {
         Some(name) => unended(alloc, name),
@@ -131,8 +130,7 @@ fn put_fault<O: Sink + Drop>(
     out: &mut RemarkOut<O>,
     ended: &Ended<'_>,
 ) -> Result<(), IoError>
-    ensures added { AddsText result out.old.said out.new.said (fault_text (unended_name ended.now.words.now ended.now.reads.now)
-        (unread_text (unread_name ended.now.reads.now) ended.now.input.failed ended.now.reason.now)) }
+    ensures added { AddsText result out.old.said out.new.said (fault_of ended.now) }
     ensures cause { HasCause out.old.faults out.new.faults result }
     ensures steady { IsOk result → out.new.faults ≡ out.old.faults }
 {
@@ -168,8 +166,7 @@ pub fn remarks_on<O: Sink + Drop>(
     ensures refused { ended.now.status ≡ 3
         → AddsSaid result out.old.said out.new.said (SaysRefused ended.now.words.now ended.now.reads.now ended.now.input) }
     ensures failed { ended.now.status ≡ 4
-        → AddsText result out.old.said out.new.said (fault_text (unended_name ended.now.words.now ended.now.reads.now)
-        (unread_text (unread_name ended.now.reads.now) ended.now.input.failed ended.now.reason.now)) }
+        → AddsText result out.old.said out.new.said (fault_of ended.now) }
 
     // Of the other statuses nothing is told, also where it ends with an error.
     ensures other { ended.now.status ≢ 0 → ended.now.status ≢ 2 → ended.now.status ≢ 3 → ended.now.status ≢ 4

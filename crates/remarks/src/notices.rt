@@ -39,10 +39,7 @@ use crate::remark_out::RemarkOut;
 use crate::said_lines::said_at;
 use crate::site_file::SiteFile;
 use jk_io::{Bytes, IoError, NoMemory, Sink};
-use site_config::{
-    Directive, PropertyLine, WorkerKind, behind_worker, directive_of, first_line, is_list_key,
-    is_maintain_key, without_mark, worker_part,
-};
+use site_config::{Directive, PropertyLine, WorkerKind, behind_worker, first_line, without_mark};
 use std::alloc::Global;
 
 /// The types of a configuration's workers, and the last line of each key.
@@ -153,26 +150,27 @@ fn directive_words(directive: Option<Directive>, at: Option<WorkerKind>) -> Opti
 }
 
 /// What is said of a key that gives no worker a directive.
-fn key_words(key: &[u8]) -> Option<&'static [u8]>
-    ensures { option_map (λ t. t.now) result ≡ key_words key.now }
+fn key_words(entry: &PropertyLine<'_>) -> Option<&'static [u8]>
+    ensures { option_map (λ t. t.now) result ≡ key_words entry.now.key.now }
 {
-    if is_list_key(key) || is_maintain_key(key) {
+    if entry.is_list() || entry.is_maintain() {
         None
-    } else if behind_worker(key).is_some() {
+    } else if behind_worker(entry.key).is_some() {
         Some(b" names no directive and has no effect")
     } else {
         Some(b" does not begin with worker. and has no effect")
     }
 }
 
-/// What is said of a key, if it has no effect.
-fn words_of(table: &KindTable<'_>, key: &[u8]) -> Option<&'static [u8]>
+/// What is said of a line's key, if it has no effect.
+#[tactic(auto, using(crate::proofs::GivenLemmas::words_given))]
+fn words_of(table: &KindTable<'_>, entry: &PropertyLine<'_>) -> Option<&'static [u8]>
     ensures { (kinds : List (List ℕ × WorkerKind)) → IsKindTable table.now kinds
-        → option_map (λ t. t.now) result ≡ words_of kinds key.now }
+        → option_map (λ t. t.now) result ≡ words_of kinds entry.now.key.now }
 {
-    match worker_part(key) {
-        None => key_words(key),
-        Some((name, text)) => directive_words(directive_of(text), table.get(name).copied()),
+    match entry.worker() {
+        None => key_words(entry),
+        Some((name, directive)) => directive_words(directive, table.get(name).copied()),
     }
 }
 
@@ -245,6 +243,7 @@ fn given_words(
 }
 
 /// What is said of a value that has an effect, though not the one that mod_jk gives it.
+#[tactic(auto, using(crate::proofs::GivenLemmas::value_given))]
 fn value_words(tables: &LineTables<'_>, entry: &PropertyLine<'_>) -> Option<&'static [u8]>
     ensures { (kinds : SiteKinds) → AreKindTables tables.now kinds
         → option_map (λ t. t.now) result ≡ value_words kinds (as_property entry.now) }
@@ -255,9 +254,9 @@ fn value_words(tables: &LineTables<'_>, entry: &PropertyLine<'_>) -> Option<&'st
     if has_hash(entry.value) {
         return Some(b" has a value with #, which is taken as it stands");
     }
-    match worker_part(entry.key) {
+    match entry.worker() {
         None => None,
-        Some((name, text)) => given_words(tables, name, directive_of(text), entry.value),
+        Some((name, directive)) => given_words(tables, name, directive, entry.value),
     }
 }
 
@@ -265,7 +264,7 @@ fn value_words(tables: &LineTables<'_>, entry: &PropertyLine<'_>) -> Option<&'st
 fn words_at(tables: &LineTables<'_>, entry: &PropertyLine<'_>) -> Option<&'static [u8]>
     ensures { ForTables tables.now (λ kinds ps. option_map (λ t. t.now) result ≡ words_at kinds ps (as_property entry.now)) }
 {
-    match words_of(tables.kinds, entry.key) {
+    match words_of(tables.kinds, entry) {
         Some(words) => Some(words),
         None => {
             if is_again(tables.lines, entry) {

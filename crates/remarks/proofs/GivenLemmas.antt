@@ -1,0 +1,19 @@
+-- What a key by which a worker is given a directive makes of its line.
+use Rattle.std.proofs.Common.{◌≡◌, ℕ, List, Option, refl}
+use Rattle.site_config.specs.declared.directive.Directive.{Directive}
+use Rattle.site_config.specs.Subjects.{GivesWorker}
+use Rattle.site_config.specs.declared.values.WorkerKind.{WorkerKind}
+use Rattle.site_config.specs.Directives.{worker_part}
+use Rattle.remarks.specs.Again.{is_single, is_single_directive}
+use Rattle.remarks.specs.Notices.{SiteKinds, directive_words, given_words, kind_among, value_with, words_of}
+
+-- whether the last such line alone counts
+pub single_given : (key name : List ℕ) (d : Option Directive) → GivesWorker key name d → is_single_directive d ≡ is_single key
+single_given key name d h = rw (h.1, h.2) refl
+
+-- what is said of its key, and of its value
+pub words_given : (kinds : List (List ℕ × WorkerKind)) (key name : List ℕ) (d : Option Directive) → GivesWorker key name d → directive_words d (kind_among name kinds) ≡ words_of kinds key
+words_given kinds key name d h = rw (h.1, h.2) refl
+
+pub value_given : (kinds : SiteKinds) (key name text : List ℕ) (d : Option Directive) → GivesWorker key name d → given_words kinds name d text ≡ value_with kinds (worker_part key) text
+value_given kinds key name text d h = rw (h.1, h.2) refl
