@@ -1,4 +1,5 @@
-use Rattle.std.proofs.Common.{None, refl}
+use Rattle.std.proofs.Common.{◌≡◌, None, refl}
+use Rattle.jk_cli.specs.declared.order.Order.TheVariants as order
 use Rattle.jk_commands.proofs.CommandLaws.{contain_done, contain_keeps, serve_done, serve_lose, served_command}
 use Rattle.jk_commands.proofs.command.run_jkd.Goals as goal
 
@@ -6,17 +7,19 @@ use Rattle.jk_commands.proofs.command.run_jkd.Goals as goal
 
 pub returns-in-Ok-Serve-clause-serves : goal.returns-in-Ok-Serve-clause-serves
 returns-in-Ok-Serve-clause-serves g c =
-    rw (c.in-Ok-Serve.is, c.in-Ok-Serve.field-0-is) (λ served incoming. record {
+    let meant : c.in-Ok-Serve.field-0 ≡ order.Serve c.in-Ok-Serve.order = rw c.in-Ok-Serve.is at c.in-Ok-Serve.field-0-is in
+    rw (c.in-Ok-Serve.is, meant) (λ served incoming. record {
       by = c.serve.result;
       said = c.serve.ensures.serves incoming;
       turned = c.from.ensures;
     })
 
 pub returns-in-Ok-Serve-clause-no_command : goal.returns-in-Ok-Serve-clause-no_command
-returns-in-Ok-Serve-clause-no_command g c = (
-  λ two. absurd (serve_done _ _ _ _ _ _ _ _ _ c.serve.result _ (c.serve.ensures.serves None) c.from.ensures two),
-  λ none. absurd (served_command _ _ _ c.in-Ok-Serve.is c.in-Ok-Serve.field-0-is refl none),
-)
+returns-in-Ok-Serve-clause-no_command g c =
+    let meant : c.in-Ok-Serve.field-0 ≡ order.Serve c.in-Ok-Serve.order = rw c.in-Ok-Serve.is at c.in-Ok-Serve.field-0-is in (
+      λ two. absurd (serve_done _ _ _ _ _ _ _ _ _ c.serve.result _ (c.serve.ensures.serves None) c.from.ensures two),
+      λ none. absurd (served_command _ _ _ c.in-Ok-Serve.is meant refl none),
+    )
 
 pub returns-in-Ok-Serve-clause-nothing : goal.returns-in-Ok-Serve-clause-nothing
 returns-in-Ok-Serve-clause-nothing g c two =
@@ -30,7 +33,9 @@ returns-in-Ok-Serve-clause-output_fault g c lost =
 
 pub returns-in-Ok-Container-clause-serves : goal.returns-in-Ok-Container-clause-serves
 returns-in-Ok-Container-clause-serves g c =
-    rw (c.in-Ok-Container.is, c.in-Ok-Container.field-0-is) (λ served incoming. record {
+    let here = c.in-Ok-Container in
+    let meant : here.field-0 ≡ order.Container here.route here.address here.threads here.clients = rw here.is at here.field-0-is in
+    rw (here.is, meant) (λ served incoming. record {
       by = c.contain.result;
       said = record {
         contained = rw (c.text.ensures.value, c.get.ensures.value, c.of_container.ensures.wanted) at c.contain.ensures.contains;
@@ -40,10 +45,12 @@ returns-in-Ok-Container-clause-serves g c =
     })
 
 pub returns-in-Ok-Container-clause-no_command : goal.returns-in-Ok-Container-clause-no_command
-returns-in-Ok-Container-clause-no_command g c = (
-  λ two. absurd (contain_done _ _ _ _ _ _ c.contain.result _ c.contain.ensures.contains c.from-in-Ok-Container.ensures two),
-  λ none. absurd (served_command _ _ _ c.in-Ok-Container.is c.in-Ok-Container.field-0-is refl none),
-)
+returns-in-Ok-Container-clause-no_command g c =
+    let here = c.in-Ok-Container in
+    let meant : here.field-0 ≡ order.Container here.route here.address here.threads here.clients = rw here.is at here.field-0-is in (
+      λ two. absurd (contain_done _ _ _ _ _ _ c.contain.result _ c.contain.ensures.contains c.from-in-Ok-Container.ensures two),
+      λ none. absurd (served_command _ _ _ here.is meant refl none),
+    )
 
 pub returns-in-Ok-Container-clause-nothing : goal.returns-in-Ok-Container-clause-nothing
 returns-in-Ok-Container-clause-nothing g c two =
