@@ -1,5 +1,5 @@
 #!/usr/bin/env python3
-"""Tries the configurations of docs/OPERATING.md, as they are printed there, before the program itself.
+"""Tries the configurations of examples/tls-in-front and examples/two-fronts, as they stand there, before the program itself.
 
     python3 vectors/fronts.py tls PROGRAM     nginx, haproxy and Apache end TLS before one front
     python3 vectors/fronts.py two PROGRAM     haproxy in TCP mode before two fronts, of which one is killed and one is stopped, under a load of sessions
@@ -22,14 +22,14 @@ import time
 from member import packet, read_packet, start_member, whole_reply
 from running import free_port, is_good, programs_in_a_folder, reply_of
 
-DOC = os.path.join(os.path.dirname(os.path.abspath(__file__)), "..", "docs", "OPERATING.md")
+EXAMPLES = os.path.join(os.path.dirname(os.path.abspath(__file__)), "..", "examples")
 MODULES = ["mpm_event", "authz_core", "ssl", "headers", "proxy", "proxy_http", "socache_shmcb"]
 
 
-def block(heading, language):
-    """The configuration in this language below a heading of the document."""
-    part = open(DOC, encoding="utf-8").read().split(f"\n## {heading}\n", 1)[1].split("\n## ", 1)[0]
-    return re.search(rf"\n```{language}\n(.*?)\n```\n", part, re.S)[1]
+def example(name):
+    """A configuration of examples/."""
+    with open(os.path.join(EXAMPLES, name), encoding="utf-8") as file:
+        return file.read().rstrip("\n")
 
 
 # A container that tells what it got.
@@ -99,7 +99,7 @@ def told_reply(link, payload):
 # Servers that end TLS.
 
 def nginx_words(programs, port, front, folder):
-    site = block("TLS in front", "nginx").replace("127.0.0.1:8080", f"127.0.0.1:{front}").replace("listen 443 ssl", f"listen 127.0.0.1:{port} ssl")
+    site = example("tls-in-front/nginx.conf").replace("127.0.0.1:8080", f"127.0.0.1:{front}").replace("listen 443 ssl", f"listen 127.0.0.1:{port} ssl")
     site = site.replace("/etc/ssl/shop.pem", f"{folder}/cert.pem").replace("/etc/ssl/shop.key", f"{folder}/key.pem")
     paths = " ".join(f"{kind}_temp_path {folder}/{kind};" for kind in ("client_body", "proxy", "fastcgi", "uwsgi", "scgi"))
     around = f"user root; daemon off; pid {folder}/nginx.pid; error_log {folder}/nginx.log; events {{ }}\nhttp {{ access_log off; {paths}\n{site}\n}}\n"
@@ -107,12 +107,12 @@ def nginx_words(programs, port, front, folder):
 
 
 def haproxy_words(programs, port, front, folder):
-    site = block("TLS in front", "haproxy").replace("127.0.0.1:8080", f"127.0.0.1:{front}").replace("bind :443 ssl", f"bind 127.0.0.1:{port} ssl")
+    site = example("tls-in-front/haproxy.cfg").replace("127.0.0.1:8080", f"127.0.0.1:{front}").replace("bind :443 ssl", f"bind 127.0.0.1:{port} ssl")
     return ["haproxy", "-db", "-f", programs.write("haproxy.cfg", site.replace("/etc/ssl/shop-with-key.pem", f"{folder}/both.pem") + "\n")]
 
 
 def apache_words(programs, port, front, folder):
-    site = block("TLS in front", "apache").replace("127.0.0.1:8080", f"127.0.0.1:{front}").replace("*:443", f"127.0.0.1:{port}")
+    site = example("tls-in-front/apache.conf").replace("127.0.0.1:8080", f"127.0.0.1:{front}").replace("*:443", f"127.0.0.1:{port}")
     site = site.replace("/etc/ssl/shop.pem", f"{folder}/cert.pem").replace("/etc/ssl/shop.key", f"{folder}/key.pem")
     modules = "".join(f"LoadModule {name}_module /usr/lib/apache2/modules/mod_{name}.so\n" for name in MODULES)
     around = f"ServerRoot /etc/apache2\nPidFile {folder}/apache.pid\nDefaultRuntimeDir {folder}\nErrorLog {folder}/apache.log\n"
@@ -289,7 +289,7 @@ def try_two(program, programs, folder):
     one, two, door = (free_port() for _ in range(3))
     first, _ = start_front(programs, program, "one", one, folder)
     _, kept = start_front(programs, program, "two", two, folder)
-    site = block("Two fronts", "haproxy").replace("bind :80", f"bind 127.0.0.1:{door}")
+    site = example("two-fronts/haproxy.cfg").replace("bind :80", f"bind 127.0.0.1:{door}")
     site = site.replace("192.0.2.11:8080", f"127.0.0.1:{one}").replace("192.0.2.12:8080", f"127.0.0.1:{two}")
     programs.start(door, "haproxy", "-db", "-f", programs.write("two.cfg", site + "\n"))
     stop = threading.Event()
