@@ -2,7 +2,7 @@
 
 use httpdate::HttpDate;
 use jk_io::Bytes;
-use jk_model::FailList;
+use lb_model::FailList;
 
 /// How long a talk waits, in milliseconds; 0 is without limit.
 #[derive(Clone, Copy, Debug, PartialEq, Eq)]

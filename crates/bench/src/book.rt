@@ -3,12 +3,12 @@
 //! It makes N exchanges in each of nine Books: choices and returns alone, and with a maintenance and a command after
 //! each 64 exchanges. bench/scan.c picks by the same rule over plain arrays.
 ghost use Rattle.std.specs.Prelude.{◌≡◌, IfSome};
-ghost use Rattle.jk_model.specs.declared.segment.TheConstants.{MODERN_RULES};
+ghost use Rattle.lb_model.specs.declared.segment.TheConstants.{MODERN_RULES};
 
 use crate::done::{Done, show, tell};
-use balancer_core::{Book, Picked};
 use jk_io::{Bytes, NoMemory};
-use jk_model::{
+use lb_book::{Book, Picked};
+use lb_model::{
     Activation, Ask, Change, Command, ConfigError, Kind, LbConfig, MemberConfig, MemberList,
     Method, Outcome, Redirect,
 };

@@ -3,15 +3,15 @@
 //! The text is that of N exchanges in a Book of two members, cut where a server cuts it. It has to be whole in memory; the
 //! check itself holds one segment.
 ghost use Rattle.std.specs.Prelude.{◌≡◌, ◌≤◌, length};
-ghost use Rattle.jk_model.specs.declared.segment.TheConstants.{MODERN_RULES};
+ghost use Rattle.lb_model.specs.declared.segment.TheConstants.{MODERN_RULES};
 
 use crate::book::{book_of, exchange};
 use crate::done::Done;
-use balancer_core::Book;
 use jk_io::{Bytes, MAX_INPUT_BYTES};
-use jk_model::Segment;
 use journal_text::write_segment;
 use journal_verdict::{Verdict, check_journal};
+use lb_book::Book;
+use lb_model::Segment;
 use std::alloc::Global;
 
 /// Kept entries at which a journal is cut.

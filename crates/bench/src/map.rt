@@ -5,10 +5,10 @@ ghost use Rattle.jk_io.specs.declared.whole_input.TheConstants.{MAX_INPUT_BYTES}
 use crate::done::Done;
 use crate::site::{LINE_BYTES, put_comment};
 use jk_io::{MAX_INPUT_BYTES, NoMemory};
+use site_mounts::read_map;
+use site_workers::{Config, read_workers};
 use std::alloc::Global;
 use std::fmt::Write;
-use uri_map::read_map;
-use worker_props::{Config, read_workers};
 
 /// The workers that the rules name.
 const WORKERS: &str =

@@ -3,9 +3,9 @@
 
 use crate::done::Done;
 use jk_io::{MAX_INPUT_BYTES, NoMemory};
+use site_workers::{Config, read_workers};
 use std::alloc::Global;
 use std::fmt::Write;
-use worker_props::{Config, read_workers};
 
 /// No line of a text is longer.
 pub const LINE_BYTES: u64 = 64;

@@ -1,20 +1,20 @@
 -- After a call that a desk did, no Maintain is due for a further call at that moment.
 use Rattle.std.proofs.Common.{◌≡◌, ℕ, ◌+◌, ◌<◌, Bool, true, false, cond, List, [], ◌∷◌, ◌++◌, length, Option, Some, refl, sym, ap, ◌∙◌, subst, arith}
-use Rattle.jk_model.specs.Journal.{is_maintain, maintained_of, moment_of}
-use Rattle.jk_model.specs.declared.ask.Ask.{Ask}
-use Rattle.jk_model.specs.declared.change.Command.{Command}
-use Rattle.jk_model.specs.declared.journal.Call.{Call}
-use Rattle.jk_model.specs.declared.journal.Call.TheVariants as call
-use Rattle.jk_model.specs.declared.journal.Entry.{Entry}
-use Rattle.jk_model.specs.declared.journal.Outcome.{Outcome}
-use Rattle.jk_model.specs.declared.refusal.Stray.{Stray}
-use Rattle.balancer_core.specs.Desks.{Chooses, Commands, DeskState, GainsLast, IsDue, LeaseNote, MeetsStray, TakesBack}
-use Rattle.balancer_core.specs.Due.{due_moment, entry_moment}
-use Rattle.balancer_core.specs.Journal.{Journal, past_of}
-use Rattle.balancer_core.specs.ToldBooks.{AreNextAt, AreSound, IsNextAt, IsNoneDue, book_in, grown_by}
-use Rattle.balancer_core.specs.declared.desk.Choice.{Choice}
-use Rattle.balancer_core.specs.declared.receipt.Receipt.{Receipt}
-use Rattle.balancer_core.proofs.ToldLaws.{grown-twice, past-one, told_grown}
+use Rattle.lb_model.specs.Journal.{is_maintain, maintained_of, moment_of}
+use Rattle.lb_model.specs.declared.ask.Ask.{Ask}
+use Rattle.lb_model.specs.declared.change.Command.{Command}
+use Rattle.lb_model.specs.declared.journal.Call.{Call}
+use Rattle.lb_model.specs.declared.journal.Call.TheVariants as call
+use Rattle.lb_model.specs.declared.journal.Entry.{Entry}
+use Rattle.lb_model.specs.declared.journal.Outcome.{Outcome}
+use Rattle.lb_model.specs.declared.refusal.Stray.{Stray}
+use Rattle.lb_book.specs.Desks.{Chooses, Commands, DeskState, GainsLast, IsDue, LeaseNote, MeetsStray, TakesBack}
+use Rattle.lb_book.specs.Due.{due_moment, entry_moment}
+use Rattle.lb_book.specs.Journal.{Journal, past_of}
+use Rattle.lb_book.specs.ToldBooks.{AreNextAt, AreSound, IsNextAt, IsNoneDue, book_in, grown_by}
+use Rattle.lb_book.specs.declared.desk.Choice.{Choice}
+use Rattle.lb_book.specs.declared.receipt.Receipt.{Receipt}
+use Rattle.lb_book.proofs.ToldLaws.{grown-twice, past-one, told_grown}
 use Rattle.check_lines.specs.Once.{IsUpToDate}
 
 moment-one : (b : Journal) (at : ℕ) (r : Receipt) → IsNextAt b at r.entry → entry_moment (grown_by b (r ∷ [])) at ≡ entry_moment b at

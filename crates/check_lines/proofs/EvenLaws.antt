@@ -1,14 +1,14 @@
 -- The premises of the law of weights hold where a Book starts.
 use Rattle.std.proofs.Common.{◌≡◌, ℕ, zero, suc, List, [], ◌∷◌, map, reverse, refl, sym, ap, ◌∙◌, subst}
 use Rattle.std.specs.Prelude.{slice_get, Result, Ok, Err, IfOk}
-use Rattle.jk_model.specs.Loads.{base_of, load_in}
-use Rattle.jk_model.specs.declared.config.LbConfig.{LbConfig}
-use Rattle.jk_model.specs.declared.journal.Entry.{Entry}
-use Rattle.jk_model.specs.declared.member.MemberConfig.{MemberConfig}
-use Rattle.jk_model.specs.declared.member.Method.TheVariants as method
-use Rattle.jk_model.specs.declared.view.MemberRow.{MemberRow}
-use Rattle.balancer_core.specs.Journal.{IsStart, Journal, past_of, start_row}
-use Rattle.balancer_core.specs.Weights.{IsEvenEpoch}
+use Rattle.lb_model.specs.Loads.{base_of, load_in}
+use Rattle.lb_model.specs.declared.config.LbConfig.{LbConfig}
+use Rattle.lb_model.specs.declared.journal.Entry.{Entry}
+use Rattle.lb_model.specs.declared.member.MemberConfig.{MemberConfig}
+use Rattle.lb_model.specs.declared.member.Method.TheVariants as method
+use Rattle.lb_model.specs.declared.view.MemberRow.{MemberRow}
+use Rattle.lb_book.specs.Journal.{IsStart, Journal, past_of, start_row}
+use Rattle.lb_book.specs.Weights.{IsEvenEpoch}
 
 load-start : (ms : List MemberConfig) (m : ℕ) → load_in (slice_get (map start_row ms) m) ≡ 0
 load-start [] m = refl

@@ -2,18 +2,18 @@
 use Rattle.std.specs.List.{All}
 use Rattle.std.proofs.lemmas.List.Elements.{All-head, All-tail}
 use Rattle.std.proofs.Common.{◌≡◌, ℕ, ◌+◌, ◌≤◌, true, List, [], ◌∷◌, ◌++◌, length, Option, refl, sym, ap, ◌∙◌, subst, arith, append_assoc, length-append, slice_index, false, ◌<◌}
-use Rattle.jk_model.specs.Free.{is_in}
-use Rattle.jk_model.specs.declared.ask.Ask.{Ask}
-use Rattle.jk_model.specs.declared.change.Command.{Command}
-use Rattle.jk_model.specs.declared.journal.Call.TheVariants as call
-use Rattle.jk_model.specs.declared.journal.Outcome.{Outcome}
-use Rattle.jk_model.specs.declared.refusal.RoomError.{RoomError}
-use Rattle.jk_model.specs.declared.refusal.FullMark.{FullMark}
-use Rattle.jk_model.specs.declared.refusal.Stray.{Stray}
-use Rattle.jk_model.specs.declared.view.View.{View}
-use Rattle.balancer_core.specs.Desks.{Chooses, Commands, DeskState, Gains, IsOwn, KeepsDesk, LeaseNote, MeetsStray, RefusesChoice, RisesByOne, Shows, first_stray, TakesBack}
-use Rattle.balancer_core.specs.declared.desk.Choice.TheVariants as choice
-use Rattle.balancer_core.specs.declared.receipt.Receipt.{Receipt}
+use Rattle.lb_model.specs.Free.{is_in}
+use Rattle.lb_model.specs.declared.ask.Ask.{Ask}
+use Rattle.lb_model.specs.declared.change.Command.{Command}
+use Rattle.lb_model.specs.declared.journal.Call.TheVariants as call
+use Rattle.lb_model.specs.declared.journal.Outcome.{Outcome}
+use Rattle.lb_model.specs.declared.refusal.RoomError.{RoomError}
+use Rattle.lb_model.specs.declared.refusal.FullMark.{FullMark}
+use Rattle.lb_model.specs.declared.refusal.Stray.{Stray}
+use Rattle.lb_model.specs.declared.view.View.{View}
+use Rattle.lb_book.specs.Desks.{Chooses, Commands, DeskState, Gains, IsOwn, KeepsDesk, LeaseNote, MeetsStray, RefusesChoice, RisesByOne, Shows, first_stray, TakesBack}
+use Rattle.lb_book.specs.declared.desk.Choice.TheVariants as choice
+use Rattle.lb_book.specs.declared.receipt.Receipt.{Receipt}
 use Rattle.check_lines.specs.Once.{Ends, GainsAsMany, Returns}
 use Rattle.check_lines.specs.declared.callers.Once.TheVariants as once
 

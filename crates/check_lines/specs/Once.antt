@@ -1,16 +1,16 @@
 -- How one exchange over a desk ends.
 use Rattle.std.specs.Prelude.{◌≡◌, ℕ, ◌+◌, ◌<◌, ◌⊎◌, Bool, false, true, List, [], ◌∷◌, ◌++◌, length, slice_index}
-use Rattle.jk_model.specs.Free.{is_in}
-use Rattle.jk_model.specs.declared.ask.Ask.{Ask}
-use Rattle.jk_model.specs.declared.journal.Answer.TheVariants as answer
-use Rattle.jk_model.specs.declared.journal.Call.TheVariants as call
-use Rattle.jk_model.specs.declared.journal.How.{How}
-use Rattle.jk_model.specs.declared.journal.Outcome.{Outcome}
-use Rattle.jk_model.specs.declared.refusal.RoomError.{RoomError}
-use Rattle.jk_model.specs.declared.refusal.RoomError.TheVariants as room
-use Rattle.balancer_core.specs.Desks.{DeskState, RisesByOne, first_stray}
-use Rattle.balancer_core.specs.ToldBooks.{IsNoneDue, WhereTold}
-use Rattle.balancer_core.specs.declared.receipt.Receipt.{Receipt}
+use Rattle.lb_model.specs.Free.{is_in}
+use Rattle.lb_model.specs.declared.ask.Ask.{Ask}
+use Rattle.lb_model.specs.declared.journal.Answer.TheVariants as answer
+use Rattle.lb_model.specs.declared.journal.Call.TheVariants as call
+use Rattle.lb_model.specs.declared.journal.How.{How}
+use Rattle.lb_model.specs.declared.journal.Outcome.{Outcome}
+use Rattle.lb_model.specs.declared.refusal.RoomError.{RoomError}
+use Rattle.lb_model.specs.declared.refusal.RoomError.TheVariants as room
+use Rattle.lb_book.specs.Desks.{DeskState, RisesByOne, first_stray}
+use Rattle.lb_book.specs.ToldBooks.{IsNoneDue, WhereTold}
+use Rattle.lb_book.specs.declared.receipt.Receipt.{Receipt}
 use Rattle.check_lines.specs.declared.callers.Once.{Once}
 use Rattle.check_lines.specs.declared.callers.Once.TheVariants as once
 

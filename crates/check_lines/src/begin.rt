@@ -1,12 +1,12 @@
 //! Openings, as the lines of a journal's text have them: `lb`, `member`, `lease` and `from`.
 ghost use Rattle.std.specs.Prelude.{◌≡◌, [], IfOk, IfSome};
-ghost use Rattle.jk_model.specs.declared.segment.TheConstants.{MODERN_RULES};
+ghost use Rattle.lb_model.specs.declared.segment.TheConstants.{MODERN_RULES};
 
 use crate::texts::{first_word, put_line};
-use balancer_core::Book;
 use jk_io::{Bytes, MAX_INPUT_BYTES, NoMemory};
-use jk_model::{LbConfig, Opening, Segment};
 use journal_text::{TextError, read_segments};
+use lb_book::Book;
+use lb_model::{LbConfig, Opening, Segment};
 use std::alloc::Global;
 
 /// Whether a line is one of an opening.

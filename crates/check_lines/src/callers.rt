@@ -1,12 +1,12 @@
 //! Small callers of a desk, proved from its trait alone.
 ghost use Rattle.std.specs.Prelude.{◌≡◌, ◌+◌, ◌<◌, ◌≤◌, ◌⊎◌, true, length, IfSome, IfOk, IfErr, OnOk, OnErr};
-ghost use Rattle.balancer_core.specs.Desks.{Commands, DeskState, KeepsDesk, RefusesChoice, RefusesCommand, Shows};
+ghost use Rattle.lb_book.specs.Desks.{Commands, DeskState, KeepsDesk, RefusesChoice, RefusesCommand, Shows};
 ghost use Rattle.check_lines.specs.Once.{Ends, GainsAsMany, IsUpToDate, LeavesNoneDue, WhereRefused};
-ghost use Rattle.jk_model.specs.declared.journal.TheConstants.{MOST_BYTES};
+ghost use Rattle.lb_model.specs.declared.journal.TheConstants.{MOST_BYTES};
 
-use balancer_core::Desk;
-use balancer_core::desk::Choice;
-use jk_model::{AdminError, Ask, Command, Outcome, RoomError, Stray};
+use lb_book::Desk;
+use lb_book::desk::Choice;
+use lb_model::{AdminError, Ask, Command, Outcome, RoomError, Stray};
 
 /// How one exchange ended.
 #[derive(PartialEq, Eq, Drop)]

@@ -7,10 +7,10 @@ ghost use Rattle.std.specs.Prelude.{◌≤◌, IfSome};
 
 use crate::texts::{put_given, put_number};
 use jk_io::{Bytes, NoMemory};
-use jk_model::{
+use journal_text::{Line, put_entry, read_line};
+use lb_model::{
     AdminError, Call, Command, Entry, FullMark, MODERN_RULES, MOST_BYTES, Outcome, RoomError, Stray,
 };
-use journal_text::{Line, put_entry, read_line};
 use std::alloc::Global;
 
 fn entry_in(line: Option<Line>) -> Option<Entry> {

@@ -1,18 +1,18 @@
 //! Callers that meet the premises of the law of weights: a Book that starts, and each call that keeps them.
 ghost use Rattle.std.specs.Prelude.{◌≡◌, ◌≤◌, ◌<◌, ℕ, true, IfOk};
-ghost use Rattle.jk_model.specs.Choice.{is_usable};
-ghost use Rattle.jk_model.specs.Journal.{members};
-ghost use Rattle.jk_model.specs.Legal.{KnowsTerms};
-ghost use Rattle.jk_model.specs.Settings.{distance_of};
-ghost use Rattle.jk_model.specs.States.{is_balanced};
-ghost use Rattle.jk_model.specs.declared.member.Method.{Method};
-ghost use Rattle.balancer_core.specs.Journal.{past_of};
-ghost use Rattle.balancer_core.specs.Weights.{IsEvenEpoch};
-ghost use Rattle.jk_model.specs.declared.journal.TheConstants.{MOST_BYTES};
+ghost use Rattle.lb_model.specs.Choice.{is_usable};
+ghost use Rattle.lb_model.specs.Journal.{members};
+ghost use Rattle.lb_model.specs.Legal.{KnowsTerms};
+ghost use Rattle.lb_model.specs.Settings.{distance_of};
+ghost use Rattle.lb_model.specs.States.{is_balanced};
+ghost use Rattle.lb_model.specs.declared.member.Method.{Method};
+ghost use Rattle.lb_book.specs.Journal.{past_of};
+ghost use Rattle.lb_book.specs.Weights.{IsEvenEpoch};
+ghost use Rattle.lb_model.specs.declared.journal.TheConstants.{MOST_BYTES};
 
-use balancer_core::{Book, Picked};
 use jk_io::NoMemory;
-use jk_model::{Ask, Entry, FullMark, LbConfig, Outcome, RoomError, Stray};
+use lb_book::{Book, Picked};
+use lb_model::{Ask, Entry, FullMark, LbConfig, Outcome, RoomError, Stray};
 use std::alloc::Global;
 
 /// A balancer by Request, whose loads are equal at its start.

@@ -3,19 +3,19 @@
 //! Each takes the segment of a Book before a call, does the call, and cites the laws of what it saw. That they are
 //! proved shows that some history meets each law's premises.
 ghost use Rattle.std.specs.Prelude.{◌≡◌, ◌≤◌, ◌<◌, ◌∷◌, reverse, IfOk};
-ghost use Rattle.jk_model.specs.Choice.{IsPick};
-ghost use Rattle.jk_model.specs.Legal.{IsLegalPast};
-ghost use Rattle.jk_model.specs.declared.journal.Call.{Call};
-ghost use Rattle.jk_model.specs.declared.segment.TheConstants.{MODERN_RULES};
-ghost use Rattle.jk_model.specs.declared.journal.TheConstants.{MOST_BYTES};
+ghost use Rattle.lb_model.specs.Choice.{IsPick};
+ghost use Rattle.lb_model.specs.Legal.{IsLegalPast};
+ghost use Rattle.lb_model.specs.declared.journal.Call.{Call};
+ghost use Rattle.lb_model.specs.declared.segment.TheConstants.{MODERN_RULES};
+ghost use Rattle.lb_model.specs.declared.journal.TheConstants.{MOST_BYTES};
 
-use balancer_core::{Book, Picked};
 use jk_io::NoMemory;
-use jk_model::laws::{
+use lb_book::{Book, Picked};
+use lb_model::laws::{
     choice_is_good, epoch_adds_up, history_is_bounded, maintenance_halves, state_is_the_last_touch,
     ticket_begins, ticket_ends,
 };
-use jk_model::{
+use lb_model::{
     AdminError, Ask, Command, Entry, FullMark, Method, Outcome, RoomError, Segment, Stray,
 };
 

@@ -8,7 +8,7 @@
 //! shown; of the rows nothing is claimed but how a Book begins.
 //! A caller in callers.rt is generic over the desk. So its contract, which says that tickets are held as before and
 //! which entries were added, shows that the clauses of the trait suffice for the crates above. One in lawful.rt cites
-//! the laws of jk_model for what a call of a Book returned, so each law's premises are met by every Book. Those in
+//! the laws of lb_model for what a call of a Book returned, so each law's premises are met by every Book. Those in
 //! even.rt keep the premises of the law of weights. `desk_checks` runs them.
 //! Contract: `one_exchange`, clauses `held` and `ends`; `change_and_look`, clause `page`; of both `refused`, `added`, `due` and
 //! `kept`.

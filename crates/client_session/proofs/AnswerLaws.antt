@@ -2,9 +2,9 @@
 use Rattle.std.proofs.Common.{◌≡◌, ◌<◌, ◌≤◌, ℕ, Bool, List, get_or, [], ◌∷◌, Option, IsSome, None, Some, Ok, Err, refl, sym, subst, inl, inr, ap, ◌∙◌, length, arith}
 use Rattle.std.proofs.lemmas.Option.{slice_get_read}
 use Rattle.jk_io.specs.Moments.{Moment}
-use Rattle.jk_model.specs.declared.served.Asked.{Asked}
-use Rattle.jk_model.specs.declared.served.Asked.TheVariants as asked
-use Rattle.jk_model.specs.declared.served.Served.{Served}
+use Rattle.lb_model.specs.declared.served.Asked.{Asked}
+use Rattle.lb_model.specs.declared.served.Asked.TheVariants as asked
+use Rattle.lb_model.specs.declared.served.Served.{Served}
 use Rattle.http_front.specs.declared.head.BodyPlan.{BodyPlan}
 use Rattle.http_front.specs.declared.head.Head.{Head}
 use Rattle.http_front.specs.declared.body.BodyIn.{BodyIn}
@@ -12,7 +12,7 @@ use Rattle.http_out.specs.declared.own_answers.OwnKind.{OwnKind}
 use Rattle.site_config.specs.declared.config.Named.{Named}
 use Rattle.site_config.specs.declared.config.Named.TheVariants as named
 use Rattle.site_config.specs.declared.config.Status.{Status}
-use Rattle.balancer_core.specs.Desks.{DeskState, MeetsNone}
+use Rattle.lb_book.specs.Desks.{DeskState, MeetsNone}
 use Rattle.status_worker.proofs.DeskLaws.{none_met}
 use Rattle.exchange.specs.Requests.{is_head}
 use Rattle.client_session.specs.Answers.{IsAnswer, IsAnswerAt, IsAtStatus, IsStatusAnswer, StopsEarly, own_for}

@@ -1,13 +1,13 @@
 -- Why an own answer was given, by its status, or a refusal.
 use Rattle.std.proofs.Common.{◌≡◌, ◌≢◌, ℕ, ◌⊎◌, Bool, true, false, List, [], ◌∷◌, Option, Some, None, Ok, Err, refl, sym, subst, inl, inr, ap, ◌∙◌, arith, if◌then◌else◌}
 use Rattle.jk_io.specs.Told.{Rose}
-use Rattle.jk_model.specs.declared.change.Command.{Command}
-use Rattle.jk_model.specs.declared.journal.Answer.TheVariants as answer
-use Rattle.jk_model.specs.declared.member.MemberConfig.{MemberConfig}
-use Rattle.jk_model.specs.declared.refusal.AdminError.TheVariants as admin
-use Rattle.jk_model.specs.declared.refusal.AdminError.{AdminError}
-use Rattle.jk_model.specs.declared.refusal.FullMark.{FullMark}
-use Rattle.jk_model.specs.declared.served.Served.{Served}
+use Rattle.lb_model.specs.declared.change.Command.{Command}
+use Rattle.lb_model.specs.declared.journal.Answer.TheVariants as answer
+use Rattle.lb_model.specs.declared.member.MemberConfig.{MemberConfig}
+use Rattle.lb_model.specs.declared.refusal.AdminError.TheVariants as admin
+use Rattle.lb_model.specs.declared.refusal.AdminError.{AdminError}
+use Rattle.lb_model.specs.declared.refusal.FullMark.{FullMark}
+use Rattle.lb_model.specs.declared.served.Served.{Served}
 use Rattle.http_front.specs.Refusal.{status_of}
 use Rattle.http_front.specs.declared.answers.Form.TheVariants as form_is
 use Rattle.http_front.specs.declared.answers.Form.{Form}
@@ -19,7 +19,7 @@ use Rattle.ajp_talk.specs.declared.plan.TalkPlan.{TalkPlan}
 use Rattle.site_config.specs.declared.config.Config.{Config}
 use Rattle.site_config.specs.declared.config.Status.{Status}
 use Rattle.site_config.specs.declared.endpoint.Endpoint.{Endpoint}
-use Rattle.balancer_core.specs.Desks.{IsCounted, RisesByOne}
+use Rattle.lb_book.specs.Desks.{IsCounted, RisesByOne}
 use Rattle.exchange.specs.Clients.{EndsWith}
 use Rattle.exchange.specs.Ends.{is_status}
 use Rattle.exchange.specs.Exchanges.{IsExchange, IsOwnAfter, IsOwnCause}

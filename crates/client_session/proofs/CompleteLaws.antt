@@ -4,7 +4,7 @@ use Rattle.std.proofs.lemmas.List.{append_cancel_left, length-append}
 use Rattle.jk_io.specs.Told.{Rose, appended}
 use Rattle.jk_io.proofs.ToldLaws.{appended-appended}
 use Rattle.jk_io.specs.declared.reaching.Talk.{Talk}
-use Rattle.jk_model.specs.declared.served.Served.{Served}
+use Rattle.lb_model.specs.declared.served.Served.{Served}
 use Rattle.http_front.specs.Request.{IsHeadOf}
 use Rattle.http_front.specs.Unread.{unread}
 use Rattle.http_front.specs.declared.head.Head.{Head}

@@ -1,9 +1,9 @@
 -- A request that was forwarded, with the row that its end adds.
 use Rattle.std.proofs.Common.{◌≡◌, ℕ, Bool, List, Some, IsSome, slice_get, refl, sym, subst, inl, ◌≤◌, ◌<◌, get_or, length, arith}
 use Rattle.std.proofs.lemmas.Option.{slice_get_read}
-use Rattle.jk_model.specs.declared.member.MemberConfig.{MemberConfig}
-use Rattle.jk_model.specs.declared.served.Asked.{Asked}
-use Rattle.jk_model.specs.declared.served.Asked.TheVariants as asked
+use Rattle.lb_model.specs.declared.member.MemberConfig.{MemberConfig}
+use Rattle.lb_model.specs.declared.served.Asked.{Asked}
+use Rattle.lb_model.specs.declared.served.Asked.TheVariants as asked
 use Rattle.http_front.specs.declared.head.Head.{Head}
 use Rattle.http_front.specs.declared.body.BodyIn.{BodyIn}
 use Rattle.http_out.specs.Own.{own_of}

@@ -1,7 +1,7 @@
 -- What a desk keeps over an exchange, and over several requests.
 use Rattle.std.proofs.Common.{◌≡◌, ℕ, Option, subst, sym, ap, ◌∙◌, arith}
-use Rattle.jk_model.specs.declared.refusal.Stray.{Stray}
-use Rattle.balancer_core.specs.Desks.{DeskState, MeetsNone, first_stray}
+use Rattle.lb_model.specs.declared.refusal.Stray.{Stray}
+use Rattle.lb_book.specs.Desks.{DeskState, MeetsNone, first_stray}
 use Rattle.exchange.specs.Rounds.{IsDeskAfter}
 use Rattle.status_worker.specs.Desks.{KeepsTickets}
 use Rattle.status_worker.proofs.DeskLaws.{none_twice}

@@ -3,8 +3,8 @@ use Rattle.std.proofs.Common.{◌≡◌, ◌≤◌, ℕ, Result, Ok, Err, refl, 
 use Rattle.std.specs.Prelude.{vec_capacity}
 use Rattle.jk_io.specs.declared.reaching.Beside.{Beside}
 use Rattle.jk_io.specs.declared.traits.streams.Meanings.{Ghosts}
-use Rattle.jk_model.specs.declared.served.Asked.{Asked}
-use Rattle.balancer_core.specs.Desks.{DeskState, MeetsNone}
+use Rattle.lb_model.specs.declared.served.Asked.{Asked}
+use Rattle.lb_book.specs.Desks.{DeskState, MeetsNone}
 use Rattle.http_front.specs.declared.body.BodyIn.{BodyIn}
 use Rattle.http_front.specs.declared.head.Head.{Head}
 use Rattle.site_config.specs.declared.config.Config.{Config}

@@ -2,7 +2,7 @@
 use Rattle.std.proofs.Common.{◌≡◌, Bool, true, false, List, ℕ, Option, None, refl, ap, subst, inl, inr}
 use Rattle.httpdate.specs.declared.date.HttpDate.{HttpDate}
 use Rattle.http_front.specs.declared.head.Head.{Head}
-use Rattle.jk_model.specs.declared.served.Served.{Served}
+use Rattle.lb_model.specs.declared.served.Served.{Served}
 use Rattle.client_session.specs.Moments.{IsNextDate, IsTold, ReadsInTurn, ReadsLast, ReadsMoment}
 use Rattle.client_session.specs.Requests.{Visit, visit_at}
 use Rattle.client_session.specs.Sessions.{ReadsHead}

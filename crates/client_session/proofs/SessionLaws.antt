@@ -5,7 +5,7 @@ use Rattle.std.proofs.lemmas.List.{append-nil}
 use Rattle.jk_io.specs.Moments.{Moment}
 use Rattle.jk_io.specs.Told.{IsEmpty, Rose}
 use Rattle.jk_io.specs.declared.reaching.Beside.{Beside}
-use Rattle.jk_model.specs.declared.served.Served.{Served}
+use Rattle.lb_model.specs.declared.served.Served.{Served}
 use Rattle.httpdate.specs.declared.date.HttpDate.{HttpDate}
 use Rattle.http_front.specs.Answer.{IfRefused, IsCalm}
 use Rattle.http_front.specs.Refusal.{status_of}
@@ -14,7 +14,7 @@ use Rattle.http_front.specs.declared.answers.Form.{Form}
 use Rattle.http_front.specs.declared.answers.HeadError.{HeadError}
 use Rattle.http_front.specs.declared.answers.HeadError.TheVariants as error
 use Rattle.http_front.specs.declared.answers.HeadGot.{HeadGot}
-use Rattle.balancer_core.specs.Desks.{DeskState}
+use Rattle.lb_book.specs.Desks.{DeskState}
 use Rattle.status_worker.proofs.DeskLaws.{none_met}
 use Rattle.status_worker.specs.Desks.{KeepsTickets}
 use Rattle.client_session.specs.Ends.{MeetsBy, RisesBy, end_of}

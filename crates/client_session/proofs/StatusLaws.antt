@@ -9,7 +9,7 @@ use Rattle.status_worker.specs.Commands.{IsBroken, IsDone, TurnsAway}
 use Rattle.status_worker.specs.Pages.{IsPage, shown_for}
 use Rattle.status_worker.specs.Refusals.{refusal_bytes}
 use Rattle.client_session.specs.Requests.{Visit, kind_at, own_kind_at, visit_in}
-use Rattle.balancer_core.specs.Desks.{DeskState}
+use Rattle.lb_book.specs.Desks.{DeskState}
 use Rattle.status_worker.specs.Desks.{DeskSide}
 use Rattle.client_session.specs.Standings.{Puts, PutsLess, PutsPart, ClientStanding}
 use Rattle.client_session.specs.Surroundings.{SendsPage, Shows}

@@ -4,7 +4,7 @@ use Rattle.jk_io.specs.declared.reaching.Beside.{Beside}
 use Rattle.jk_io.specs.declared.traits.streams.Meanings.{Ghosts}
 use Rattle.http_front.specs.declared.body.BodyIn.{BodyIn}
 use Rattle.site_config.specs.declared.balancer.Lb.{Lb}
-use Rattle.balancer_core.specs.Desks.{DeskState}
+use Rattle.lb_book.specs.Desks.{DeskState}
 use Rattle.exchange.specs.Requests.{Errand}
 use Rattle.exchange.specs.declared.ending.ExchangeEnd.{ExchangeEnd}
 use Rattle.client_session.specs.Answers.{IsForwardedAt}

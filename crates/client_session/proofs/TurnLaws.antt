@@ -3,7 +3,7 @@ use Rattle.std.proofs.Common.{◌≡◌, ℕ, ◌+◌, ◌≤◌, ◌<◌, ◌==
 use Rattle.std.proofs.lemmas.Bool.{eq-eqb, true≢false}
 use Rattle.jk_io.specs.Moments.{Moment}
 use Rattle.jk_io.specs.Told.{Rose}
-use Rattle.jk_model.specs.declared.served.Served.{Served}
+use Rattle.lb_model.specs.declared.served.Served.{Served}
 use Rattle.http_front.specs.Refusal.{status_of}
 use Rattle.http_out.specs.declared.own_answers.OwnKind.{OwnKind}
 use Rattle.httpdate.specs.declared.date.HttpDate.{HttpDate}
@@ -17,7 +17,7 @@ use Rattle.http_front.specs.declared.body.BodyIn.{BodyIn}
 use Rattle.http_front.specs.declared.fault.BodyFault.{BodyFault}
 use Rattle.http_front.specs.declared.fault.BodyFault.TheVariants as fault
 use Rattle.client_session.specs.Answers.{IsAnswer}
-use Rattle.balancer_core.specs.Desks.{DeskState, MeetsNone}
+use Rattle.lb_book.specs.Desks.{DeskState, MeetsNone}
 use Rattle.client_session.specs.Ends.{MeetsBy, RisesBy, end_of}
 use Rattle.client_session.specs.Finishing.{Finishes, StopsWithoutHead, TurnsAfter, stop_after}
 use Rattle.client_session.specs.Requests.{IsNewBody, Visit, is_last, refused_kind}

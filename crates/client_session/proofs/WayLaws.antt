@@ -2,8 +2,8 @@
 use Rattle.std.proofs.Common.{◌≡◌, ℕ, List, [], Option, refl}
 use Rattle.jk_io.specs.declared.reaching.Beside.{Beside}
 use Rattle.jk_io.specs.declared.traits.streams.Meanings.{Ghosts}
-use Rattle.balancer_core.specs.Desks.{DeskState}
-use Rattle.jk_model.specs.declared.served.Served.{Served}
+use Rattle.lb_book.specs.Desks.{DeskState}
+use Rattle.lb_model.specs.declared.served.Served.{Served}
 use Rattle.client_session.specs.Causes.{IsDecided, IsOwnCaused}
 use Rattle.client_session.specs.Complete.{EndsWhole}
 use Rattle.client_session.specs.Parts.{HasParts}

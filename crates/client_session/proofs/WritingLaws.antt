@@ -14,7 +14,7 @@ use Rattle.client_session.specs.Answers.{own_bytes_of, own_for}
 use Rattle.http_front.specs.Refusal.{status_of}
 use Rattle.http_front.specs.declared.answers.Form.{Form}
 use Rattle.http_front.specs.declared.head.Head.{Head}
-use Rattle.jk_model.specs.declared.served.Served.{Served}
+use Rattle.lb_model.specs.declared.served.Served.{Served}
 use Rattle.client_session.specs.Finishing.{AddsRefused, RefusesHead}
 use Rattle.client_session.specs.Requests.{awaits_continue, continue_for, refused_kind}
 use Rattle.client_session.specs.Sessions.{refused_row}

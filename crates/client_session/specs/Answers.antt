@@ -1,9 +1,9 @@
 -- What a request is answered with: by its balancer, by its status worker, or by the connector itself.
 use Rattle.std.specs.Prelude.{ℕ, ◌≡◌, ◌≤◌, ◌⊎◌, Bool, true, false, List, [], ◌∷◌, length, Option, Some, None, IsSome, Result, Ok, Err, slice_get}
 use Rattle.jk_io.specs.Told.{Rose}
-use Rattle.jk_model.specs.declared.member.MemberConfig.{MemberConfig}
-use Rattle.jk_model.specs.declared.served.Asked.TheVariants as asked
-use Rattle.jk_model.specs.declared.served.Served.{Served}
+use Rattle.lb_model.specs.declared.member.MemberConfig.{MemberConfig}
+use Rattle.lb_model.specs.declared.served.Asked.TheVariants as asked
+use Rattle.lb_model.specs.declared.served.Served.{Served}
 use Rattle.http_front.specs.declared.head.Head.{Head}
 use Rattle.http_front.specs.declared.body.BodyIn.{BodyIn}
 use Rattle.http_out.specs.Own.{own_body, own_bytes, own_of}
@@ -14,7 +14,7 @@ use Rattle.site_config.specs.declared.config.Named.TheVariants as named
 use Rattle.site_config.specs.declared.config.Status.{Status}
 use Rattle.status_worker.specs.Mimes.{mime_of}
 use Rattle.status_worker.specs.declared.page.PagePart.{PagePart}
-use Rattle.uri_map.specs.Mounts.{terms}
+use Rattle.site_mounts.specs.Mounts.{terms}
 use Rattle.ajp_talk.specs.declared.ending.Told.{Told}
 use Rattle.ajp_talk.specs.Moments.{IsUsed}
 use Rattle.exchange.specs.Clients.{Gives, MeetsAt}

@@ -1,7 +1,7 @@
 -- What the client's bytes decide of a session's end, and why an own answer was given, by its status, or a refusal.
 use Rattle.std.specs.Prelude.{ℕ, ◌≡◌, ◌≢◌, ◌≤◌, ◌+◌, ◌⊎◌, Bool, true, false, List, ◌++◌, length, Some, None, IfSome}
 use Rattle.jk_io.specs.Told.{Rose}
-use Rattle.jk_model.specs.declared.journal.Answer.TheVariants as answer
+use Rattle.lb_model.specs.declared.journal.Answer.TheVariants as answer
 use Rattle.http_front.specs.Refusal.{status_of}
 use Rattle.http_front.specs.Request.{AreEmptyLines, EndsWithin, IsHeadOf, Refuses}
 use Rattle.http_front.specs.declared.answers.Form.{Form}

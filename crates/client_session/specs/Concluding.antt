@@ -1,11 +1,11 @@
 -- What an exchange's end, or a request that wasn't answered whole, means to its session.
 use Rattle.std.specs.Prelude.{ℕ, ◌≡◌, ◌≤◌, ◌⊎◌, Bool, List, [], ◌∷◌, length, Option, Some, None, IsSome, slice_get}
 use Rattle.http_out.specs.Own.{own_of}
-use Rattle.jk_model.specs.declared.member.MemberConfig.{MemberConfig}
+use Rattle.lb_model.specs.declared.member.MemberConfig.{MemberConfig}
 use Rattle.jk_io.specs.Moments.{Moment}
-use Rattle.jk_model.specs.declared.served.Asked.{Asked}
-use Rattle.jk_model.specs.declared.served.Asked.TheVariants as asked
-use Rattle.jk_model.specs.declared.served.Served.{Served}
+use Rattle.lb_model.specs.declared.served.Asked.{Asked}
+use Rattle.lb_model.specs.declared.served.Asked.TheVariants as asked
+use Rattle.lb_model.specs.declared.served.Served.{Served}
 use Rattle.ajp_talk.specs.declared.ending.Told.{Told}
 use Rattle.site_config.specs.declared.config.Config.{Config}
 use Rattle.site_config.specs.declared.config.Status.{Status}

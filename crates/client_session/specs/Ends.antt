@@ -1,7 +1,7 @@
 -- What a session's end says of the desk's strays and of the client's faults.
 use Rattle.std.specs.Prelude.{ℕ, ◌≡◌}
 use Rattle.jk_io.specs.Told.{Rose}
-use Rattle.balancer_core.specs.Desks.{DeskState, MeetsNone, RisesByOne, first_stray}
+use Rattle.lb_book.specs.Desks.{DeskState, MeetsNone, RisesByOne, first_stray}
 use Rattle.client_session.specs.declared.ending.SessionEnd.{SessionEnd}
 use Rattle.client_session.specs.declared.ending.SessionStop.{SessionStop}
 use Rattle.client_session.specs.declared.ending.SessionStop.TheVariants as stop

@@ -2,8 +2,8 @@
 use Rattle.std.specs.Prelude.{◌≡◌, ℕ, ◌≤◌, Bool, List, Result, Ok, Err}
 use Rattle.jk_io.specs.declared.reaching.Beside.{Beside}
 use Rattle.jk_io.specs.declared.traits.streams.Meanings.{Ghosts}
-use Rattle.jk_model.specs.declared.served.Asked.{Asked}
-use Rattle.balancer_core.specs.Desks.{DeskState}
+use Rattle.lb_model.specs.declared.served.Asked.{Asked}
+use Rattle.lb_book.specs.Desks.{DeskState}
 use Rattle.status_worker.specs.Desks.{KeepsTickets}
 use Rattle.client_session.specs.Concluding.{settled_by, whole_settled}
 use Rattle.client_session.specs.Ready.{IsReady}

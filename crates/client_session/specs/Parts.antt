@@ -2,7 +2,7 @@
 use Rattle.std.specs.Prelude.{ℕ, zero, suc, ◌≡◌, ◌≢◌, ◌+◌, ◌⊎◌, Bool, true, false, List, [], ◌∷◌, ◌++◌, Option, Some, slice_get}
 use Rattle.jk_io.specs.Told.{appended, prepended}
 use Rattle.jk_io.specs.declared.reaching.Talk.{Talk}
-use Rattle.jk_model.specs.declared.member.MemberConfig.{MemberConfig}
+use Rattle.lb_model.specs.declared.member.MemberConfig.{MemberConfig}
 use Rattle.http_front.specs.Request.{IsHeadOf}
 use Rattle.http_front.specs.declared.head.Head.{Head}
 use Rattle.http_front.specs.Body.{place_behind}

@@ -1,9 +1,9 @@
 -- What a session needs of its desk and its reach.
 use Rattle.std.specs.Prelude.{◌≡◌, true, false, IfSome}
 use Rattle.jk_io.specs.declared.reaching.Beside.{Beside}
-use Rattle.balancer_core.specs.Desks.{DeskState}
+use Rattle.lb_book.specs.Desks.{DeskState}
 use Rattle.exchange.specs.Requests.{sizes_of}
-use Rattle.uri_map.specs.Sites.{stands_in}
+use Rattle.site_mounts.specs.Sites.{stands_in}
 use Rattle.client_session.specs.Requests.{Visit}
 
 -- All that the map names stands in the configuration, desk and reach have the sizes of its balancers, the session is the

@@ -13,8 +13,8 @@ use Rattle.http_front.specs.State.{failed_of, most_of, place_of, taken_of}
 use Rattle.http_front.specs.declared.body.BodyIn.{BodyIn}
 use Rattle.site_config.specs.declared.config.Config.{Config}
 use Rattle.site_config.specs.declared.config.Named.{Named}
-use Rattle.uri_map.specs.Mounts.{mount}
-use Rattle.uri_map.specs.declared.rule.Rule.{Rule}
+use Rattle.site_mounts.specs.Mounts.{mount}
+use Rattle.site_mounts.specs.declared.rule.Rule.{Rule}
 use Rattle.client_session.specs.declared.inquiry.Inquiry.{Inquiry}
 use Rattle.client_session.specs.declared.session_site.SessionSite.{SessionSite}
 

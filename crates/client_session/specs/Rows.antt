@@ -1,8 +1,8 @@
 -- The row of a request that is under way.
 use Rattle.std.specs.Prelude.{ℕ, ◌≡◌, ◌≤◌, Bool, List, [], length, Some, None, vec_capacity}
-use Rattle.jk_model.specs.declared.served.Asked.{Asked}
-use Rattle.jk_model.specs.declared.served.Asked.TheVariants as asked
-use Rattle.jk_model.specs.declared.served.Served.{Served}
+use Rattle.lb_model.specs.declared.served.Asked.{Asked}
+use Rattle.lb_model.specs.declared.served.Asked.TheVariants as asked
+use Rattle.lb_model.specs.declared.served.Served.{Served}
 use Rattle.http_front.specs.declared.head.Head.{Head}
 use Rattle.status_worker.specs.Pages.{sent_of}
 use Rattle.status_worker.specs.Refusals.{code_of, refusal_body}

@@ -5,8 +5,8 @@
 -- or an own answer; and a front of the last part where that broke off.
 use Rattle.std.specs.Prelude.{ℕ, zero, suc, ◌≡◌, ◌+◌, ◌<◌, ◌⊎◌, true, false, List, [], ◌∷◌, ◌++◌, Option, None}
 use Rattle.jk_io.specs.Told.{IsEmpty, Rose}
-use Rattle.jk_model.specs.declared.served.Asked.TheVariants as asked
-use Rattle.jk_model.specs.declared.served.Served.{Served}
+use Rattle.lb_model.specs.declared.served.Asked.TheVariants as asked
+use Rattle.lb_model.specs.declared.served.Served.{Served}
 use Rattle.http_front.specs.Answer.{UsesEnd, UsesHead}
 use Rattle.http_front.specs.Refusal.{status_of}
 use Rattle.http_front.specs.Request.{EndsWithin, Refuses}

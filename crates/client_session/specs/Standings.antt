@@ -8,7 +8,7 @@ use Rattle.jk_io.specs.declared.traits.streams.Meanings.{Ghosts}
 use Rattle.http_front.specs.Request.{IsDecided}
 use Rattle.http_front.specs.Unread.{unread}
 use Rattle.http_front.specs.declared.body.BodyIn.{BodyIn}
-use Rattle.balancer_core.specs.Desks.{DeskState}
+use Rattle.lb_book.specs.Desks.{DeskState}
 use Rattle.status_worker.specs.Desks.{DeskSide, desk_side}
 use Rattle.exchange.specs.Deliveries.{PutsShort}
 use Rattle.exchange.specs.Rounds.{Scene}

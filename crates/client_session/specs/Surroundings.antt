@@ -5,8 +5,8 @@ use Rattle.jk_io.specs.declared.reaching.Beside.{Beside}
 use Rattle.jk_io.specs.declared.traits.streams.Meanings.{Ghosts}
 use Rattle.http_front.specs.declared.body.BodyIn.{BodyIn}
 use Rattle.httpdate.specs.declared.date.HttpDate.{HttpDate}
-use Rattle.balancer_core.specs.Desks.{DeskState}
-use Rattle.jk_model.specs.declared.served.Served.{Served}
+use Rattle.lb_book.specs.Desks.{DeskState}
+use Rattle.lb_model.specs.declared.served.Served.{Served}
 use Rattle.http_front.specs.declared.head.Head.{Head}
 use Rattle.site_config.specs.declared.config.Status.{Status}
 use Rattle.status_worker.specs.Pages.{IsPage}

@@ -1,7 +1,7 @@
 -- What a request comes to, as a step of a session.
 use Rattle.std.specs.Prelude.{ℕ, ◌≡◌, ◌+◌, List, None}
-use Rattle.balancer_core.specs.Desks.{DeskState, MeetsNone}
-use Rattle.jk_model.specs.declared.served.Served.{Served}
+use Rattle.lb_book.specs.Desks.{DeskState, MeetsNone}
+use Rattle.lb_model.specs.declared.served.Served.{Served}
 use Rattle.http_front.specs.State.{failed_of}
 use Rattle.http_front.specs.declared.body.BodyIn.{BodyIn}
 use Rattle.client_session.specs.Ends.{MeetsBy, RisesBy}

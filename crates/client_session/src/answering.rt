@@ -1,9 +1,9 @@
 //! One request is answered: by its worker, or by the connector itself.
 ghost use Rattle.std.specs.Prelude.{◌≡◌, ◌≤◌, ◌<◌, true, [], Some, IfErr, IfOk, length, slice_get, vec_capacity};
 ghost use Rattle.std.specs.List.{All};
-ghost use Rattle.jk_model.specs.declared.member.MemberConfig.{MemberConfig as AnyMember};
+ghost use Rattle.lb_model.specs.declared.member.MemberConfig.{MemberConfig as AnyMember};
 ghost use Rattle.http_front.specs.declared.body.BodyIn.{BodyIn as AnyBody};
-ghost use Rattle.uri_map.specs.Sites.{is_worker};
+ghost use Rattle.site_mounts.specs.Sites.{is_worker};
 ghost use Rattle.site_config.specs.declared.config.Named.TheVariants as named_is;
 ghost use Rattle.exchange.specs.Requests.{errand_of};
 ghost use Rattle.client_session.specs.Answers.{errand_at};
@@ -25,11 +25,11 @@ use crate::status::serve_status;
 use crate::surroundings::Surroundings;
 use crate::turn::{Answered, Settled, stopped};
 use crate::writing::{send, write_own};
-use balancer_core::Desk;
 use exchange::{Means, Request, Sides, exchange_of};
 use http_front::{BodyIn, Head, Inbox};
 use jk_io::{Clock, Link, NoMemory, Reach, Sink};
-use jk_model::MemberConfig;
+use lb_book::Desk;
+use lb_model::MemberConfig;
 use site_config::{Config, Named, Status};
 use std::alloc::Global;
 

@@ -8,7 +8,7 @@ use crate::rows::Row;
 use crate::turn::{Answered, Settled, stopped};
 use ajp_talk::Told;
 use exchange::ExchangeEnd;
-use jk_model::{MemberConfig, Served};
+use lb_model::{MemberConfig, Served};
 use status_worker::PageRefusal;
 
 /// The row of what a member gave.

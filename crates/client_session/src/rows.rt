@@ -1,7 +1,7 @@
 //! The rows of answered requests, for a log.
 ghost use Rattle.std.specs.Prelude.{◌≡◌, ◌≤◌, [], length, vec_capacity, IfOk, IsSome};
 ghost use Rattle.http_out.specs.Own.{own_of};
-ghost use Rattle.jk_model.specs.declared.served.Asked.TheVariants as asked_is;
+ghost use Rattle.lb_model.specs.declared.served.Asked.TheVariants as asked_is;
 ghost use Rattle.status_worker.specs.Pages.{sent_of};
 ghost use Rattle.status_worker.specs.Refusals.{refusal_body};
 ghost use Rattle.client_session.specs.Answers.{own_len as own_length};
@@ -10,7 +10,7 @@ ghost use Rattle.client_session.specs.Rows.{IsRowOf, own_row_by, refusal_row_by,
 use http_front::Head;
 use http_out::own_body;
 use jk_io::{Bytes, NoMemory};
-use jk_model::{Asked, Served};
+use lb_model::{Asked, Served};
 use status_worker::PageRefusal;
 use std::alloc::Global;
 
@@ -45,7 +45,7 @@ pub struct Row {
 impl Row {
     ghost use Rattle.std.specs.Prelude.{◌≡◌, ◌≤◌, [], length, vec_capacity, IfOk, IsSome};
     ghost use Rattle.http_out.specs.Own.{own_of};
-    ghost use Rattle.jk_model.specs.declared.served.Asked.TheVariants as asked_is;
+    ghost use Rattle.lb_model.specs.declared.served.Asked.TheVariants as asked_is;
     ghost use Rattle.client_session.specs.Rows.{IsRowOf, own_row_by, refusal_row_by, worker_row};
 
     /// The row of a refused head.

@@ -21,14 +21,14 @@ use crate::session_site::SessionSite;
 use crate::surroundings::Surroundings;
 use crate::turn::{Answered, SessionTurn, Settled};
 use crate::writing::write_own;
-use balancer_core::Desk;
 use http_front::{
     BodyFault, BodyIn, Form, Head, HeadError, HeadGot, Inbox, MAX_BODY_BYTES, read_head,
 };
 use http_out::OwnKind;
 use httpdate::HttpDate;
 use jk_io::{Awaited, Clock, Link, Reach, Sink};
-use jk_model::{RowSink, Served};
+use lb_book::Desk;
+use lb_model::{RowSink, Served};
 use std::alloc::Global;
 
 /// Why the session stops where the rest of a body can't be read.

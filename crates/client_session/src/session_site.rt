@@ -2,7 +2,7 @@
 
 use jk_io::Peer;
 use site_config::Config;
-use uri_map::UriMap;
+use site_mounts::UriMap;
 
 /// The site, the worker that serves, and the client.
 #[derive(Clone, Copy)]

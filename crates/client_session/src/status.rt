@@ -1,6 +1,6 @@
 //! A request of a status worker: its commands are done, and its page written.
 ghost use Rattle.std.specs.Prelude.{◌≡◌, ◌≤◌, ◌<◌, IfSome, length};
-ghost use Rattle.balancer_core.specs.Desks.{MeetsNone};
+ghost use Rattle.lb_book.specs.Desks.{MeetsNone};
 ghost use Rattle.exchange.specs.Requests.{sizes_of};
 ghost use Rattle.client_session.specs.Keeping.{KeepsAround};
 ghost use Rattle.client_session.specs.Ready.{IsReady};
@@ -12,8 +12,8 @@ use crate::ending::SessionStop;
 use crate::inquiry::{Inquiry, kind_of, own_kind_of};
 use crate::surroundings::Surroundings;
 use crate::writing::{send, write_refusal};
-use balancer_core::Desk;
 use jk_io::{Clock, Link, Reach, Sink};
+use lb_book::Desk;
 use site_config::Status;
 use status_worker::{NoPage, PageRequest, change, page_at};
 use std::alloc::Global;

@@ -3,7 +3,7 @@ ghost use Rattle.std.specs.Prelude.{◌≡◌, None};
 ghost use Rattle.client_session.specs.declared.turn.Answered.TheVariants as answered_is;
 
 use crate::ending::SessionStop;
-use jk_model::Served;
+use lb_model::Served;
 
 /// What the client has of a request's answer.
 #[derive(Clone, Copy, PartialEq, Eq)]

@@ -1,11 +1,11 @@
 -- What a Site of one Book keeps.
 use Rattle.std.proofs.Common.{◌≡◌, ℕ, zero, suc, List, [], ◌∷◌, length, ap, ◌∙◌, subst}
 use Rattle.std.proofs.lemmas.List.{length-set}
-use Rattle.jk_model.specs.declared.journal.Call.{Call}
-use Rattle.balancer_core.specs.Journal.{Journal}
-use Rattle.balancer_core.specs.ToldBooks.{grown_by}
-use Rattle.balancer_core.specs.declared.receipt.Receipt.{Receipt}
-use Rattle.locked_balancer.specs.Sites.{AddsAt, At}
+use Rattle.lb_model.specs.declared.journal.Call.{Call}
+use Rattle.lb_book.specs.Journal.{Journal}
+use Rattle.lb_book.specs.ToldBooks.{grown_by}
+use Rattle.lb_book.specs.declared.receipt.Receipt.{Receipt}
+use Rattle.lb_shared.specs.Sites.{AddsAt, At}
 
 -- A call of a Site leaves as many Books as there were.
 pub adds_same : (old new : List Journal) (lb session at : ℕ) (asked : Call) (r : Receipt) → AddsAt old new lb session at asked r → length new ≡ length old

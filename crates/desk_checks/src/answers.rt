@@ -1,14 +1,14 @@
 //! Calls of a Book of rules 2, and what is told of their answers. A call of session 0 goes by the callers that cite the
 //! laws.
 ghost use Rattle.std.specs.Prelude.{◌≡◌, ◌≤◌};
-ghost use Rattle.jk_model.specs.declared.segment.TheConstants.{MODERN_RULES};
-ghost use Rattle.jk_model.specs.declared.journal.TheConstants.{MOST_BYTES};
+ghost use Rattle.lb_model.specs.declared.segment.TheConstants.{MODERN_RULES};
+ghost use Rattle.lb_model.specs.declared.journal.TheConstants.{MOST_BYTES};
 
-use balancer_core::{Book, Picked};
 use check_lines::calls::{tell_admin, tell_entry, tell_full, tell_room, tell_stray};
 use check_lines::{maintain_lawfully, reset_lawfully, return_lawfully, select_lawfully};
 use jk_io::{Bytes, NoMemory};
-use jk_model::{AdminError, Ask, Command, Entry, FullMark, Outcome, RoomError, Stray};
+use lb_book::{Book, Picked};
+use lb_model::{AdminError, Ask, Command, Entry, FullMark, Outcome, RoomError, Stray};
 
 fn select(book: &mut Book, session: u32, at: u64, ask: &Ask) -> Result<Picked, RoomError<FullMark>>
     requires { book.old.rules ≡ MODERN_RULES }

@@ -1,12 +1,12 @@
 //! Rows of desks: of one thread over a Book that it owns, and over a Site behind its lock whose journal is cut.
 ghost use Rattle.std.specs.Prelude.{◌≡◌, []};
-ghost use Rattle.jk_model.specs.declared.segment.TheConstants.{MODERN_RULES};
+ghost use Rattle.lb_model.specs.declared.segment.TheConstants.{MODERN_RULES};
 
 use crate::{plain, shared};
-use balancer_core::Book;
 use check_lines::begin::book_of_row;
 use check_lines::texts::{first_word, short};
 use jk_io::NoMemory;
+use lb_book::Book;
 use std::marker::Brand;
 use std::sync::Wait;
 use std::sync::ledger::Blank;

@@ -4,7 +4,7 @@ use check_lines::Once;
 use check_lines::calls::tell_stray;
 use check_lines::texts::put_number;
 use jk_io::{Bytes, NoMemory};
-use jk_model::{Ask, RoomError, View};
+use lb_model::{Ask, RoomError, View};
 use play_script::put_rows;
 
 /// What a fresh session asks.

@@ -1,17 +1,17 @@
 //! A Book of rules 2, and what is told of it.
 ghost use Rattle.std.specs.Prelude.{◌≡◌, ◌≤◌, IfOk, IfSome};
-ghost use Rattle.jk_model.specs.declared.segment.TheConstants.{MODERN_RULES};
-ghost use Rattle.jk_model.specs.declared.journal.TheConstants.{MOST_BYTES};
+ghost use Rattle.lb_model.specs.declared.segment.TheConstants.{MODERN_RULES};
+ghost use Rattle.lb_model.specs.declared.journal.TheConstants.{MOST_BYTES};
 
 use crate::answers::{tell_back, tell_command, tell_maintain, tell_return, tell_select};
 use crate::queries::commands_asked;
-use balancer_core::{Book, Picked};
 use check_lines::begin::resume;
 use check_lines::calls::{asked_call, call_of, outcome_of};
 use check_lines::cite_bounds;
 use check_lines::texts::{first_word, long, put_number, say};
 use jk_io::{Bytes, NoMemory};
-use jk_model::{Ask, Call, Command, Entry, Outcome, Segment, Stray};
+use lb_book::{Book, Picked};
+use lb_model::{Ask, Call, Command, Entry, Outcome, Segment, Stray};
 use play_script::put_rows;
 use std::alloc::Global;
 

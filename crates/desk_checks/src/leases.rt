@@ -1,8 +1,8 @@
 //! The tickets of a Site that are out.
 ghost use Rattle.std.specs.Prelude.{◌≡◌, ◌<◌, All, IfSome, IfErr, length};
 
-use jk_model::{Kind, Outcome};
-use locked_balancer::{Site, SiteLease, SiteName};
+use lb_model::{Kind, Outcome};
+use lb_shared::{Site, SiteLease, SiteName};
 use std::sync::ledger::Share;
 
 const GONE: Outcome = Outcome {

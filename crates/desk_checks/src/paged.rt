@@ -1,9 +1,9 @@
 //! The parts of a status page as they come.
 
-use balancer_core::Book;
 use check_lines::begin::named_opening;
 use jk_io::{Bytes, NoMemory};
-use jk_model::Method;
+use lb_book::Book;
+use lb_model::Method;
 use status_worker::{Address, AddressList, BalancerType, Mime, PageList, PagePart, render_as};
 use std::alloc::Global;
 

@@ -1,17 +1,17 @@
 //! A desk of one thread.
 ghost use Rattle.std.specs.Prelude.{◌≡◌, ◌≤◌, None, length};
-ghost use Rattle.jk_model.specs.declared.segment.TheConstants.{MODERN_RULES};
-ghost use Rattle.jk_model.specs.declared.journal.TheConstants.{MOST_BYTES};
+ghost use Rattle.lb_model.specs.declared.segment.TheConstants.{MODERN_RULES};
+ghost use Rattle.lb_model.specs.declared.journal.TheConstants.{MOST_BYTES};
 
 use crate::exchanged::{FRESH, tell_once, tell_view};
-use balancer_core::{Book, BookList, Desk, PlainDesk};
 use check_lines::begin::is_opening_line;
 use check_lines::calls::{call_of, command_of, outcome_of, tell_admin, tell_full};
 use check_lines::judging::{Teller, judge_lines};
 use check_lines::texts::{first_word, say};
 use check_lines::{Once, change_and_look, one_exchange};
 use jk_io::{Bytes, NoMemory};
-use jk_model::{AdminError, Command, Entry, FullMark, Outcome, RoomError, View};
+use lb_book::{Book, BookList, Desk, PlainDesk};
+use lb_model::{AdminError, Command, Entry, FullMark, Outcome, RoomError, View};
 use std::alloc::Global;
 
 /// A desk over one Book.

@@ -5,7 +5,7 @@ use check_lines::calls::tell_entry;
 use check_lines::judging::{Teller, judge_lines};
 use check_lines::texts::{first_word, put_given, put_line, say};
 use jk_io::{Bytes, NoMemory};
-use jk_model::{Activation, Answer, Call, Command, Entry, LbConfig};
+use lb_model::{Activation, Answer, Call, Command, Entry, LbConfig};
 use status_worker::{
     CommandList, Mime, NamedChange, NamedRedirect, StatusCommand, StatusError, commands_for,
     member_named, read_command, read_mime,

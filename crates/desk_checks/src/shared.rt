@@ -1,21 +1,21 @@
 //! A desk over a Site behind its lock, whose journal is cut.
 ghost use Rattle.std.specs.Prelude.{◌≡◌, ◌<◌, ◌≤◌, ◌∷◌, [], None, length};
-ghost use Rattle.balancer_core.specs.Journal.{next_number};
-ghost use Rattle.jk_model.specs.Journal.{members};
-ghost use Rattle.jk_model.specs.declared.segment.TheConstants.{MODERN_RULES};
-ghost use Rattle.jk_model.specs.declared.journal.TheConstants.{MOST_BYTES};
+ghost use Rattle.lb_book.specs.Journal.{next_number};
+ghost use Rattle.lb_model.specs.Journal.{members};
+ghost use Rattle.lb_model.specs.declared.segment.TheConstants.{MODERN_RULES};
+ghost use Rattle.lb_model.specs.declared.journal.TheConstants.{MOST_BYTES};
 
 use crate::exchanged::{FRESH, tell_once, tell_view};
 use crate::sites::site_of;
-use balancer_core::{Book, Desk};
 use check_lines::begin::is_opening_line;
 use check_lines::calls::{call_of, outcome_of};
 use check_lines::judging::{Teller, judge_line, judge_lines};
 use check_lines::one_exchange;
 use check_lines::texts::{first_word, put_number, say};
 use jk_io::{Bytes, NoMemory, NumberList};
-use jk_model::{Entry, Outcome, Segment};
-use locked_balancer::{KeptList, Leaving, MemShelf, SharedDesk, SharedSite, SiteName};
+use lb_book::{Book, Desk};
+use lb_model::{Entry, Outcome, Segment};
+use lb_shared::{KeptList, Leaving, MemShelf, SharedDesk, SharedSite, SiteName};
 use std::alloc::Global;
 use std::sync::Wait;
 use std::sync::ledger::{Blank, Share};

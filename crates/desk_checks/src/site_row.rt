@@ -7,8 +7,8 @@ use check_lines::calls::{asked_call, outcome_of, tell_admin, tell_entry, tell_st
 use check_lines::judging::Teller;
 use check_lines::texts::{first_word, put_number, say};
 use jk_io::{Bytes, NoMemory, NumberList};
-use jk_model::{AdminError, Ask, Call, Command, Entry, Outcome, RoomError, View};
-use locked_balancer::{
+use lb_model::{AdminError, Ask, Call, Command, Entry, Outcome, RoomError, View};
+use lb_shared::{
     KeptList, MemShelf, Site, SiteLease, SiteMark, SiteName, SitePicked, SiteReceipt, SiteStray,
 };
 use play_script::put_rows;
@@ -94,9 +94,9 @@ fn put_last(shelf: &MemShelf, out: &mut Bytes) -> Result<bool, NoMemory> {
 
 impl<L: SiteName> SiteRow<L> {
     ghost use Rattle.std.specs.Prelude.{◌≡◌, ◌<◌, ◌≤◌, IfSome, length};
-    ghost use Rattle.balancer_core.specs.ToldBooks.{IsNoneDue};
-    ghost use Rattle.locked_balancer.specs.Sites.{At};
-    ghost use Rattle.jk_model.specs.declared.journal.TheConstants.{MOST_BYTES};
+    ghost use Rattle.lb_book.specs.ToldBooks.{IsNoneDue};
+    ghost use Rattle.lb_shared.specs.Sites.{At};
+    ghost use Rattle.lb_model.specs.declared.journal.TheConstants.{MOST_BYTES};
 
     pub fn new(alloc: Global, site: Site<L>, share: Share<L>) -> SiteRow<L>
         requires one { length site ≡ 1 }

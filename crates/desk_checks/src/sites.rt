@@ -1,16 +1,16 @@
 //! Rows of a Site over one Book.
 ghost use Rattle.std.specs.Prelude.{◌≡◌, ◌<◌, ◌∷◌, [], IfOk};
-ghost use Rattle.balancer_core.specs.Journal.{next_number};
-ghost use Rattle.jk_model.specs.Journal.{members};
-ghost use Rattle.jk_model.specs.declared.segment.TheConstants.{MODERN_RULES};
+ghost use Rattle.lb_book.specs.Journal.{next_number};
+ghost use Rattle.lb_model.specs.Journal.{members};
+ghost use Rattle.lb_model.specs.declared.segment.TheConstants.{MODERN_RULES};
 
 use crate::desks::show_unread;
 use crate::site_row::SiteRow;
-use balancer_core::{Book, BookList};
 use check_lines::begin::book_of_row;
 use check_lines::judging::judge_lines;
 use jk_io::NoMemory;
-use locked_balancer::{Site, SiteName};
+use lb_book::{Book, BookList};
+use lb_shared::{Site, SiteName};
 use std::alloc::Global;
 use std::marker::Brand;
 use std::sync::ledger::{Blank, Share};

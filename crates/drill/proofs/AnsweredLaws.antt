@@ -2,8 +2,8 @@
 use Rattle.std.proofs.Common.{◌≡◌, ℕ, zero, suc, ◌+◌, ◌==◌, Bool, cond, List, [], ◌∷◌, ◌++◌, Some, None, sym, subst, ap, ◌∙◌, add-one, arith, append_assoc, append-nil}
 use Rattle.std.proofs.lemmas.Bool.{eq-eqb}
 use Rattle.std.proofs.lemmas.List.Elements.{filter-append}
-use Rattle.jk_model.specs.declared.journal.Answer.TheVariants as answer
-use Rattle.jk_model.specs.declared.journal.Entry.{Entry}
+use Rattle.lb_model.specs.declared.journal.Answer.TheVariants as answer
+use Rattle.lb_model.specs.declared.journal.Entry.{Entry}
 use Rattle.drill.specs.Drills.{AreAnswered, Chose, GaveBack, IsAnswered, entries_of}
 use Rattle.drill.specs.Progress.{IsSoFar}
 

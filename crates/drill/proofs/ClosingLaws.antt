@@ -5,18 +5,18 @@ use Rattle.std.specs.Prelude.{IfOk, IfSome}
 use Rattle.std.proofs.lemmas.List.{length-append}
 use Rattle.std.proofs.lemmas.List.Elements.{All-cons, All-head, All-nil, All-rest}
 use Rattle.std.proofs.lemmas.List.Sums.{sum_by-cons}
-use Rattle.jk_model.specs.Journal.{members}
-use Rattle.balancer_core.specs.Journal.{IsSound, IsStart, Journal}
-use Rattle.balancer_core.specs.ToldBooks.{sizes_of}
-use Rattle.locked_balancer.specs.Sites.{AreSited, added_in, nexts_of}
-use Rattle.site_closing.specs.CloseErrors.{IsCloseError}
-use Rattle.site_closing.specs.Closings.{Differs}
-use Rattle.site_closing.specs.declared.close.CloseError.{CloseError}
-use Rattle.site_closing.specs.declared.close.CloseError.TheVariants as close
-use Rattle.jk_model.specs.declared.journal.Entry.{Entry}
+use Rattle.lb_model.specs.Journal.{members}
+use Rattle.lb_book.specs.Journal.{IsSound, IsStart, Journal}
+use Rattle.lb_book.specs.ToldBooks.{sizes_of}
+use Rattle.lb_shared.specs.Sites.{AreSited, added_in, nexts_of}
+use Rattle.lb_closing.specs.CloseErrors.{IsCloseError}
+use Rattle.lb_closing.specs.Closings.{Differs}
+use Rattle.lb_closing.specs.declared.close.CloseError.{CloseError}
+use Rattle.lb_closing.specs.declared.close.CloseError.TheVariants as close
+use Rattle.lb_model.specs.declared.journal.Entry.{Entry}
 use Rattle.drill.specs.Ends.{IsFound, IsOfDrill, IsStarted}
 use Rattle.drill.specs.Sites.{IsDrillBook}
-use Rattle.jk_model.specs.declared.config.LbConfig.{LbConfig}
+use Rattle.lb_model.specs.declared.config.LbConfig.{LbConfig}
 
 -- a Site with these sizes and first numbers has one Book, a drill's
 pub of_drill : (sizes firsts : List ℕ) (books : List Journal) → AreSited sizes firsts books → sizes ≡ 2 ∷ [] → firsts ≡ 0 ∷ []

@@ -9,7 +9,7 @@ use Rattle.std.proofs.lemmas.List.{length-map}
 use Rattle.std.proofs.lemmas.List.Concat.{flat_map-append}
 use Rattle.std.proofs.lemmas.List.Elements.{All-nil, All-push}
 use Rattle.std.proofs.lemmas.List.Sums.{fold-append}
-use Rattle.jk_model.specs.declared.served.Served.{Served}
+use Rattle.lb_model.specs.declared.served.Served.{Served}
 use Rattle.client_session.specs.Requests.{Visit}
 use Rattle.client_session.specs.Sessions.{Serves}
 use Rattle.client_session.specs.Ends.{end_of}
@@ -18,7 +18,7 @@ use Rattle.client_session.specs.declared.ending.SessionEnd.{SessionEnd}
 use Rattle.client_session.specs.declared.ending.SessionStop.TheVariants as stop
 use Rattle.client_session.proofs.WayLaws.{never_began}
 use Rattle.status_worker.specs.Desks.{DeskSide}
-use Rattle.pass_desk.specs.Placed.{AreFrom}
+use Rattle.lb_passes.specs.Placed.{AreFrom}
 use Rattle.drill.specs.Bodies.{all_together, together, with_bodies, with_body}
 use Rattle.drill.specs.Counts.{AreMade, CountsDrill, CountsRows, CountsSessions, HasRows, IsMadeBy, IsSessionOf}
 use Rattle.drill.specs.Requests.{texts_of}

@@ -4,13 +4,13 @@ use Rattle.ajp_wire.specs.Spelling.{int}
 use Rattle.ajp_wire.specs.Packet.{body_payload}
 use Rattle.ajp_wire.proofs.PacketLaws.{int-only}
 use Rattle.ajp_request.specs.declared.forward.Forward.{Forward}
-use Rattle.mini_container.specs.Answer.{answer_by, answer_of}
-use Rattle.mini_container.specs.Applications.{is_echo}
-use Rattle.mini_container.specs.Request.{application_of, has_first}
-use Rattle.mini_container.specs.Turns.{CameAnswers, CameFirst, CameTaken, IsPacketOf, SpellsPiece, data_of}
-use Rattle.mini_container.specs.declared.app_config.AppConfig.{AppConfig}
-use Rattle.mini_container.specs.declared.application.Application.{Application}
-use Rattle.mini_container.specs.declared.application.Application.TheVariants.{Forbidden, Who, Echo, Size, Status, Session, DropAtOnce, DropBehindHead, DropBehindChunk, Unknown}
+use Rattle.ajp_container.specs.Answer.{answer_by, answer_of}
+use Rattle.ajp_container.specs.Applications.{is_echo}
+use Rattle.ajp_container.specs.Request.{application_of, has_first}
+use Rattle.ajp_container.specs.Turns.{CameAnswers, CameFirst, CameTaken, IsPacketOf, SpellsPiece, data_of}
+use Rattle.ajp_container.specs.declared.app_config.AppConfig.{AppConfig}
+use Rattle.ajp_container.specs.declared.application.Application.{Application}
+use Rattle.ajp_container.specs.declared.application.Application.TheVariants.{Forbidden, Who, Echo, Size, Status, Session, DropAtOnce, DropBehindHead, DropBehindChunk, Unknown}
 
 -- ---- no more data than bytes
 

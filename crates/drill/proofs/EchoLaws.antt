@@ -17,11 +17,11 @@ use Rattle.http_front.specs.declared.place.Place.TheVariants as at
 use Rattle.http_front.specs.declared.head.BodyPlan.{BodyPlan}
 use Rattle.http_front.specs.declared.head.BodyPlan.TheVariants as plan
 use Rattle.site_config.specs.declared.endpoint.Endpoint.{Endpoint}
-use Rattle.mini_container.specs.Answer.{answer_of}
-use Rattle.mini_container.specs.Applications.{is_echo}
-use Rattle.mini_container.specs.Request.{application_of, asks_body, content_length, has_first}
-use Rattle.mini_container.specs.Turns.{CameAnswers, CameFirst, IsPacketOf, SpellsPiece, data_of, has_ended, is_enough}
-use Rattle.mini_container.specs.declared.app_config.AppConfig.{AppConfig}
+use Rattle.ajp_container.specs.Answer.{answer_of}
+use Rattle.ajp_container.specs.Applications.{is_echo}
+use Rattle.ajp_container.specs.Request.{application_of, asks_body, content_length, has_first}
+use Rattle.ajp_container.specs.Turns.{CameAnswers, CameFirst, IsPacketOf, SpellsPiece, data_of, has_ended, is_enough}
+use Rattle.ajp_container.specs.declared.app_config.AppConfig.{AppConfig}
 use Rattle.drill.proofs.MeetingLaws.{Heard, IsPlain, reverse-asks}
 use Rattle.drill.proofs.DataLaws.{answer-same, piece-only}
 use Rattle.drill.proofs.LengthLaws.{Names}

@@ -21,8 +21,8 @@ use Rattle.http_out.specs.declared.framing.RequestKind.{RequestKind}
 use Rattle.site_config.specs.declared.endpoint.Endpoint.{Endpoint}
 use Rattle.forwarding.specs.FirstPiece.{first_len}
 use Rattle.forwarding.proofs.FirstPieceLaws.{within_length}
-use Rattle.mini_container.specs.Answer.{answer_of}
-use Rattle.mini_container.specs.declared.app_config.AppConfig.{AppConfig}
+use Rattle.ajp_container.specs.Answer.{answer_of}
+use Rattle.ajp_container.specs.declared.app_config.AppConfig.{AppConfig}
 use Rattle.drill.specs.Meeting.{EndToEnd, EndToEndOfExchange, IsDoneWith, forwarded, front_of, kind_for, plan_on, reply_for}
 use Rattle.drill.proofs.BoundLaws.{answers-short, few-messages, first-short}
 use Rattle.drill.proofs.LengthLaws.{length_below, named_length}

@@ -7,8 +7,8 @@ use Rattle.std.specs.Fmt.{digits}
 use Rattle.percent_encoding.specs.Percent.{percent_decode}
 use Rattle.httparse.specs.Grammar.{Field, IsField, IsRequestHead, RequestHead, crlf, is_token_byte, is_uri_byte, is_value_byte, print_request, ReadsRequest, trim_ows}
 use Rattle.jk_io.specs.Moments.{Moment}
-use Rattle.jk_model.specs.declared.ask.Terms.{Terms}
-use Rattle.jk_model.specs.declared.member.MemberConfig.{MemberConfig}
+use Rattle.lb_model.specs.declared.ask.Terms.{Terms}
+use Rattle.lb_model.specs.declared.member.MemberConfig.{MemberConfig}
 use Rattle.ajp_wire.specs.Packet.{FitsPacket, packet}
 use Rattle.ajp_request.specs.Spelling.{SpellsForward}
 use Rattle.ajp_request.specs.Writing.{FieldsFit, IsForward, as_read, payload_of}
@@ -37,14 +37,14 @@ use Rattle.http_out.specs.ReplyBytes.{head_bytes}
 use Rattle.http_out.specs.declared.framing.RequestKind.{RequestKind}
 use Rattle.site_config.specs.declared.balancer.Lb.{Lb}
 use Rattle.site_config.specs.declared.endpoint.Endpoint.{Endpoint}
-use Rattle.mini_container.specs.Answer.{bytes_of}
-use Rattle.mini_container.specs.Ends.{IsTalk, end_of}
-use Rattle.mini_container.specs.Request.{application_of}
-use Rattle.mini_container.specs.Turns.{Came, Idle, Ping, Request, Taken, ContainerTurn, Turns, is_over, owed, requests_in}
-use Rattle.mini_container.specs.declared.app_config.AppConfig.{AppConfig}
-use Rattle.mini_container.specs.declared.application.Application.TheVariants.{Unknown}
-use Rattle.mini_container.specs.declared.ends.Stopped.TheVariants.{Closed}
-use Rattle.mini_container.proofs.SentLaws.{owed-spelled}
+use Rattle.ajp_container.specs.Answer.{bytes_of}
+use Rattle.ajp_container.specs.Ends.{IsTalk, end_of}
+use Rattle.ajp_container.specs.Request.{application_of}
+use Rattle.ajp_container.specs.Turns.{Came, Idle, Ping, Request, Taken, ContainerTurn, Turns, is_over, owed, requests_in}
+use Rattle.ajp_container.specs.declared.app_config.AppConfig.{AppConfig}
+use Rattle.ajp_container.specs.declared.application.Application.TheVariants.{Unknown}
+use Rattle.ajp_container.specs.declared.ends.Stopped.TheVariants.{Closed}
+use Rattle.ajp_container.proofs.SentLaws.{owed-spelled}
 use Rattle.drill.specs.FirstGet.{FirstGet, first_bytes, first_errand, first_head, first_reply, no_data}
 use Rattle.drill.specs.Meeting.{IsDoneWith, IsRequest, forwarded, plan_on}
 

@@ -2,9 +2,9 @@
 use Rattle.std.proofs.Common.{◌≡◌, ℕ, List, [], ◌∷◌, ◌++◌, Option, Some, None, refl, sym, ap, subst, ◌∙◌, append_assoc, append-nil}
 use Rattle.jk_io.specs.Moments.{Moment}
 use Rattle.jk_io.specs.Told.{appended, prepended}
-use Rattle.mini_container.specs.Answer.{bytes_of}
-use Rattle.mini_container.specs.Turns.{ContainerTurn, Turns, owed}
-use Rattle.mini_container.specs.declared.app_config.AppConfig.{AppConfig}
+use Rattle.ajp_container.specs.Answer.{bytes_of}
+use Rattle.ajp_container.specs.Turns.{ContainerTurn, Turns, owed}
+use Rattle.ajp_container.specs.declared.app_config.AppConfig.{AppConfig}
 use Rattle.drill.specs.Meeting.{GoesOn}
 
 -- Turns in two parts, each with what came and what was sent.

@@ -9,7 +9,7 @@ use Rattle.std.proofs.lemmas.Bool.{eqb-true, leb-false, leb-true}
 use Rattle.std.proofs.lemmas.List.{length-map, reverse-append, reverse-reverse}
 use Rattle.std.proofs.lemmas.Slice.Eq.{bytes_eq-Decides}
 use Rattle.jk_io.specs.Decimals.{all_digits, decimal_of, drop_blanks, is_blank, is_decimal, trimmed}
-use Rattle.jk_model.specs.declared.member.MemberConfig.{MemberConfig}
+use Rattle.lb_model.specs.declared.member.MemberConfig.{MemberConfig}
 use Rattle.ajp_wire.specs.Names.{headers_as_read, table_spelling}
 use Rattle.ajp_request.specs.Spelling.{SpellsForward}
 use Rattle.ajp_request.specs.Tables.{header_names}
@@ -33,7 +33,7 @@ use Rattle.http_front.specs.declared.head.Head.{Head}
 use Rattle.http_front.specs.declared.framing.TheConstants.{MAX_BODY_BYTES}
 use Rattle.httparse.specs.Spans.{name_and_value}
 use Rattle.site_config.specs.declared.endpoint.Endpoint.{Endpoint}
-use Rattle.mini_container.specs.Request.{content_length, length_in, value_named}
+use Rattle.ajp_container.specs.Request.{content_length, length_in, value_named}
 
 -- ---- names and values as they come to the container
 

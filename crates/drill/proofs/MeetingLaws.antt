@@ -15,16 +15,16 @@ use Rattle.ajp_reply.specs.declared.message.Message.TheVariants.{Headers, Chunk,
 use Rattle.ajp_reply.specs.declared.message.ReplyParts.{ReplyParts}
 use Rattle.ajp_reply.proofs.StreamLaws.{goes_on}
 use Rattle.ajp_talk.specs.Replies.{chunks_of, is_good}
-use Rattle.mini_container.specs.Answer.{answer_of, bytes_of}
-use Rattle.mini_container.specs.Applications.{drops}
-use Rattle.mini_container.specs.Ends.{IsTalk, TurnPlace, Stops, place_of}
-use Rattle.mini_container.specs.Request.{application_of}
-use Rattle.mini_container.specs.Turns.{Body, Awaited, Taken, ContainerTurn, Idle, Ping, Request, Came, CameBody, CameTaken, IsPacketOf, Turns, ask, asks_on, data_of, is_dropped, is_over, owed, owed_for, waits}
-use Rattle.mini_container.specs.declared.app_config.AppConfig.{AppConfig}
-use Rattle.mini_container.specs.declared.ends.ContainerEnd.{ContainerEnd}
-use Rattle.mini_container.specs.declared.ends.Stopped.{Stopped}
-use Rattle.mini_container.proofs.AnswerLaws.{answer-whole}
-use Rattle.mini_container.proofs.SentLaws.{owed-spelled}
+use Rattle.ajp_container.specs.Answer.{answer_of, bytes_of}
+use Rattle.ajp_container.specs.Applications.{drops}
+use Rattle.ajp_container.specs.Ends.{IsTalk, TurnPlace, Stops, place_of}
+use Rattle.ajp_container.specs.Request.{application_of}
+use Rattle.ajp_container.specs.Turns.{Body, Awaited, Taken, ContainerTurn, Idle, Ping, Request, Came, CameBody, CameTaken, IsPacketOf, Turns, ask, asks_on, data_of, is_dropped, is_over, owed, owed_for, waits}
+use Rattle.ajp_container.specs.declared.app_config.AppConfig.{AppConfig}
+use Rattle.ajp_container.specs.declared.ends.ContainerEnd.{ContainerEnd}
+use Rattle.ajp_container.specs.declared.ends.Stopped.{Stopped}
+use Rattle.ajp_container.proofs.AnswerLaws.{answer-whole}
+use Rattle.ajp_container.proofs.SentLaws.{owed-spelled}
 use Rattle.drill.proofs.DataLaws.{taken-within}
 
 -- ---- a container's talk from its first turn on

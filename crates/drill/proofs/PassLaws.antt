@@ -3,19 +3,19 @@ use Rattle.std.proofs.Common.{◌≡◌, ℕ, zero, suc, ◌+◌, ◌<◌, ◌�
 use Rattle.std.proofs.lemmas.List.{append-nil, length-map, length-reverse, map-append}
 use Rattle.std.proofs.Math.Seq.{take-append_seam}
 use Rattle.atomic_table.specs.Seated.{TableId}
-use Rattle.balancer_core.specs.Journal.{Journal}
-use Rattle.jk_model.specs.Journal.{members}
-use Rattle.jk_model.specs.declared.journal.Entry.{Entry}
-use Rattle.jk_model.specs.declared.opening.Opening.{Opening}
-use Rattle.pass_desk.specs.Closing.{AreAllPasses, IsClosed}
-use Rattle.pass_desk.specs.PassDesks.{view_of}
-use Rattle.pass_desk.specs.Passes.{AreNewPasses, IsNewPass, origin_of}
-use Rattle.pass_desk.specs.Placed.{AreBack, AreEachBack, AreFrom, IsBack, origin_in, table_in_passes}
-use Rattle.pass_desk.specs.declared.pass.Pass.{Pass}
-use Rattle.pass_desk.proofs.PlacedLaws.{AreNext, back_at, back_more, from_more, new_origin, new_table, next_rest}
-use Rattle.pass_desk.specs.Turns.{IsBookOf}
-use Rattle.pass_desk.specs.declared.pass_view.Origin.{Origin}
-use Rattle.pass_desk.proofs.BookLaws.{book_entries}
+use Rattle.lb_book.specs.Journal.{Journal}
+use Rattle.lb_model.specs.Journal.{members}
+use Rattle.lb_model.specs.declared.journal.Entry.{Entry}
+use Rattle.lb_model.specs.declared.opening.Opening.{Opening}
+use Rattle.lb_passes.specs.Closing.{AreAllPasses, IsClosed}
+use Rattle.lb_passes.specs.PassDesks.{view_of}
+use Rattle.lb_passes.specs.Passes.{AreNewPasses, IsNewPass, origin_of}
+use Rattle.lb_passes.specs.Placed.{AreBack, AreEachBack, AreFrom, IsBack, origin_in, table_in_passes}
+use Rattle.lb_passes.specs.declared.pass.Pass.{Pass}
+use Rattle.lb_passes.proofs.PlacedLaws.{AreNext, back_at, back_more, from_more, new_origin, new_table, next_rest}
+use Rattle.lb_passes.specs.Turns.{IsBookOf}
+use Rattle.lb_passes.specs.declared.pass_view.Origin.{Origin}
+use Rattle.lb_passes.proofs.BookLaws.{book_entries}
 use Rattle.drill.specs.Ends.{IsOfDrill, IsStarted}
 
 -- Where each keeps its number, all do.

@@ -1,10 +1,10 @@
 -- The drill's site is in range, and its map is read.
 use Rattle.std.proofs.Common.{◌≡◌, ℕ, zero, suc, ◌<◌, ◌≤◌, List, slice_get, Some, refl, subst, arith}
-use Rattle.jk_model.specs.Multiple.{divisor_by, multiple_of, multiple_of_two}
-use Rattle.jk_model.specs.Ranges.{IsInRange, IsPeriod, IsRefused, factors_in}
-use Rattle.jk_model.specs.declared.config_error.ConfigError.{ConfigError}
-use Rattle.jk_model.specs.declared.config_error.ConfigError.TheVariants as Refusal
-use Rattle.jk_model.specs.declared.member.MemberConfig.{MemberConfig}
+use Rattle.lb_model.specs.Multiple.{divisor_by, multiple_of, multiple_of_two}
+use Rattle.lb_model.specs.Ranges.{IsInRange, IsPeriod, IsRefused, factors_in}
+use Rattle.lb_model.specs.declared.config_error.ConfigError.{ConfigError}
+use Rattle.lb_model.specs.declared.config_error.ConfigError.TheVariants as Refusal
+use Rattle.lb_model.specs.declared.member.MemberConfig.{MemberConfig}
 use Rattle.drill.specs.Sites.{member_of, two_members}
 
 -- the common multiple of 1 and 2

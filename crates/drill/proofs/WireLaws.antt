@@ -3,12 +3,12 @@ use Rattle.std.proofs.Common.{◌≡◌, ℕ, ◌≤◌, Bool, List, [], ◌∷�
 use Rattle.jk_io.specs.Moments.{Moment}
 use Rattle.jk_io.specs.Told.{appended}
 use Rattle.jk_io.proofs.ToldLaws.{appended-appended}
-use Rattle.mini_container.specs.declared.app_config.AppConfig.{AppConfig}
-use Rattle.mini_container.specs.declared.ends.ContainerEnd.{ContainerEnd}
-use Rattle.mini_container.specs.declared.ends.Stopped.{Stopped}
-use Rattle.mini_container.specs.Answer.{bytes_of}
-use Rattle.mini_container.specs.Ends.{IsTalk, TurnPlace, Stops, place_of}
-use Rattle.mini_container.specs.Turns.{is_dropped, owed, waits}
+use Rattle.ajp_container.specs.declared.app_config.AppConfig.{AppConfig}
+use Rattle.ajp_container.specs.declared.ends.ContainerEnd.{ContainerEnd}
+use Rattle.ajp_container.specs.declared.ends.Stopped.{Stopped}
+use Rattle.ajp_container.specs.Answer.{bytes_of}
+use Rattle.ajp_container.specs.Ends.{IsTalk, TurnPlace, Stops, place_of}
+use Rattle.ajp_container.specs.Turns.{is_dropped, owed, waits}
 use Rattle.drill.specs.Wires.{Answers, WireState, end_at, wire}
 
 record Appends (before after : Option (List ℕ)) : Type 0 where

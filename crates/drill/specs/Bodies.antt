@@ -1,6 +1,6 @@
 -- How many bytes the bodies of replies had, as a drill counts them. A count stays below 2^64.
 use Rattle.std.specs.Prelude.{◌≡◌, ℕ, ◌+◌, List, Option, Some, None, fold, min}
-use Rattle.jk_model.specs.declared.served.Served.{Served}
+use Rattle.lb_model.specs.declared.served.Served.{Served}
 
 -- the size of a row's body comes to a count
 abbrev pub with_body : (count : ℕ) → Served → ℕ

@@ -4,9 +4,9 @@ use Rattle.std.specs.List.{All, flat_map}
 use mathlib.Core.Option.{some}
 use lib.ListN.{get_elem?}
 use Rattle.jk_io.specs.declared.traits.surroundings.Peer.{Peer}
-use Rattle.jk_model.specs.declared.served.Served.{Served}
+use Rattle.lb_model.specs.declared.served.Served.{Served}
 use Rattle.site_config.specs.declared.config.Config.{Config}
-use Rattle.uri_map.specs.declared.rule.Rule.{Rule}
+use Rattle.site_mounts.specs.declared.rule.Rule.{Rule}
 use Rattle.client_session.specs.Requests.{Visit, undated, visit}
 use Rattle.client_session.specs.Sessions.{Serves}
 use Rattle.client_session.specs.Standings.{ClientStanding}

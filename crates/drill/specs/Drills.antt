@@ -1,12 +1,12 @@
 -- What the journal of a drill has of its requests. Read this after Requests.
 use Rattle.std.specs.Prelude.{◌≡◌, ℕ, zero, suc, ◌<◌, ◌==◌, Bool, List, [], ◌∷◌, filter, length}
-use Rattle.jk_model.specs.declared.ask.Ask.{Ask}
-use Rattle.jk_model.specs.declared.journal.Answer.TheVariants as answer
-use Rattle.jk_model.specs.declared.journal.Call.TheVariants as call
-use Rattle.jk_model.specs.declared.journal.Entry.{Entry}
-use Rattle.jk_model.specs.declared.journal.How.{How}
-use Rattle.jk_model.specs.declared.journal.Kind.TheVariants as kind
-use Rattle.jk_model.specs.declared.journal.Outcome.{Outcome}
+use Rattle.lb_model.specs.declared.ask.Ask.{Ask}
+use Rattle.lb_model.specs.declared.journal.Answer.TheVariants as answer
+use Rattle.lb_model.specs.declared.journal.Call.TheVariants as call
+use Rattle.lb_model.specs.declared.journal.Entry.{Entry}
+use Rattle.lb_model.specs.declared.journal.How.{How}
+use Rattle.lb_model.specs.declared.journal.Kind.TheVariants as kind
+use Rattle.lb_model.specs.declared.journal.Outcome.{Outcome}
 use Rattle.drill.specs.Requests.{requests_of}
 
 -- The entry is a Select that chose, and made this ticket.

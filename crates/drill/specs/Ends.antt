@@ -1,10 +1,10 @@
 -- What a drill hands out, and why there is none.
 use Rattle.std.specs.Prelude.{◌≡◌, ℕ, Bool, true, false, List, [], ◌∷◌, length, if◌then◌else◌}
-use Rattle.jk_model.specs.Journal.{members}
-use Rattle.jk_model.specs.Limits.{modern_rules}
-use Rattle.jk_model.specs.declared.journal.Entry.{Entry}
-use Rattle.balancer_core.specs.Journal.{IsSound, Journal, next_number}
-use Rattle.site_closing.specs.Closings.{Differs, DiscordNote}
+use Rattle.lb_model.specs.Journal.{members}
+use Rattle.lb_model.specs.Limits.{modern_rules}
+use Rattle.lb_model.specs.declared.journal.Entry.{Entry}
+use Rattle.lb_book.specs.Journal.{IsSound, Journal, next_number}
+use Rattle.lb_closing.specs.Closings.{Differs, DiscordNote}
 use Rattle.drill.specs.Counts.{CountsDrill}
 use Rattle.drill.specs.Drills.{IsDrilled}
 use Rattle.drill.specs.Requests.{bodies_of}

@@ -1,7 +1,7 @@
 -- A talk of which EndToEnd speaks, with a body: a client posts five bytes to `/echo`.
 use Rattle.std.specs.Prelude.{◌≡◌, ℕ, Bool, true, false, List, [], ◌∷◌, codes, Some, None}
-use Rattle.jk_model.specs.declared.ask.Terms.{Terms}
-use Rattle.jk_model.specs.declared.member.MemberConfig.{MemberConfig}
+use Rattle.lb_model.specs.declared.ask.Terms.{Terms}
+use Rattle.lb_model.specs.declared.member.MemberConfig.{MemberConfig}
 use Rattle.http_front.specs.declared.head.BodyPlan.TheVariants as plan
 use Rattle.http_front.specs.declared.head.Head.{Head}
 use Rattle.http_front.specs.Body.{Data}
@@ -14,7 +14,7 @@ use Rattle.ajp_request.specs.declared.forward.Forward.{Forward}
 use Rattle.ajp_talk.specs.Moments.{TalkMoment}
 use Rattle.ajp_talk.specs.Replies.{is_listed}
 use Rattle.exchange.specs.Requests.{Errand}
-use Rattle.mini_container.specs.declared.app_config.AppConfig.{AppConfig}
+use Rattle.ajp_container.specs.declared.app_config.AppConfig.{AppConfig}
 use Rattle.drill.specs.Meeting.{IsDoneWith}
 
 -- the client's bytes up to its body

@@ -4,7 +4,7 @@ use Rattle.std.specs.Prelude.{◌≡◌, ℕ, Bool, not, IsTrue, List, ◌++◌,
 use Rattle.std.specs.Option.{option_map}
 use Rattle.jk_io.specs.Moments.{Moment}
 use Rattle.jk_io.specs.Told.{appended}
-use Rattle.jk_model.specs.declared.member.MemberConfig.{MemberConfig}
+use Rattle.lb_model.specs.declared.member.MemberConfig.{MemberConfig}
 use Rattle.http_front.specs.Request.{IsHeadOf}
 use Rattle.http_front.specs.declared.head.Head.{Head}
 use Rattle.http_front.specs.Body.{Data, data_from, dropped}
@@ -27,14 +27,14 @@ use Rattle.forwarding.specs.Forwards.{forward_for}
 use Rattle.exchange.specs.Clients.{HasLastTalk}
 use Rattle.exchange.specs.OneTalk.{Around, plan_on as on_link}
 use Rattle.exchange.specs.Requests.{Errand, is_head, plan_for}
-use Rattle.mini_container.specs.Answer.{answer_of}
-use Rattle.mini_container.specs.Applications.{drops}
-use Rattle.mini_container.specs.Ends.{Goes, IsTalk, end_of}
-use Rattle.mini_container.specs.Request.{application_of}
-use Rattle.mini_container.specs.Turns.{ContainerTurn, Turns, requests_in}
-use Rattle.mini_container.specs.declared.ends.Stopped.{Stopped}
-use Rattle.mini_container.specs.declared.app_config.AppConfig.{AppConfig}
-use Rattle.mini_container.specs.declared.ends.ContainerEnd.{ContainerEnd}
+use Rattle.ajp_container.specs.Answer.{answer_of}
+use Rattle.ajp_container.specs.Applications.{drops}
+use Rattle.ajp_container.specs.Ends.{Goes, IsTalk, end_of}
+use Rattle.ajp_container.specs.Request.{application_of}
+use Rattle.ajp_container.specs.Turns.{ContainerTurn, Turns, requests_in}
+use Rattle.ajp_container.specs.declared.ends.Stopped.{Stopped}
+use Rattle.ajp_container.specs.declared.app_config.AppConfig.{AppConfig}
+use Rattle.ajp_container.specs.declared.ends.ContainerEnd.{ContainerEnd}
 
 -- A client's request: its head was read, and its own data are those that the bytes after the head bring.
 pub record IsRequest (head : Head) (own : Data) : Type 0 where

@@ -1,6 +1,6 @@
 -- What a journal has of a thread, as far as it is read.
 use Rattle.std.specs.Prelude.{◌≡◌, ℕ, List, [], ◌∷◌, ◌++◌, Option, Some, None}
-use Rattle.jk_model.specs.declared.journal.Entry.{Entry}
+use Rattle.lb_model.specs.declared.journal.Entry.{Entry}
 use Rattle.drill.specs.Drills.{AreAnswered, Chose}
 
 -- This many requests were answered whole; and then, where a ticket is given, a Select chose that made it.

@@ -1,13 +1,13 @@
 -- The site of a drill: one balancer of two members.
 use Rattle.std.specs.Prelude.{◌≡◌, ℕ, true, false, List, [], ◌∷◌, None, codes}
 use Rattle.exchange.specs.Requests.{sizes_of}
-use Rattle.jk_model.specs.declared.config.LbConfig.{LbConfig}
-use Rattle.jk_model.specs.declared.member.Activation.TheVariants as activation
-use Rattle.jk_model.specs.declared.member.MemberConfig.{MemberConfig}
-use Rattle.jk_model.specs.declared.member.Method.TheVariants as method
+use Rattle.lb_model.specs.declared.config.LbConfig.{LbConfig}
+use Rattle.lb_model.specs.declared.member.Activation.TheVariants as activation
+use Rattle.lb_model.specs.declared.member.MemberConfig.{MemberConfig}
+use Rattle.lb_model.specs.declared.member.Method.TheVariants as method
 use Rattle.site_config.specs.declared.config.Config.{Config}
-use Rattle.uri_map.specs.Sites.{stands_in}
-use Rattle.uri_map.specs.declared.rule.Rule.{Rule}
+use Rattle.site_mounts.specs.Sites.{stands_in}
+use Rattle.site_mounts.specs.declared.rule.Rule.{Rule}
 
 -- a member of a name and factor, with the pool of 64
 abbrev pub member_of : (name : List ℕ) → (factor : ℕ) → MemberConfig

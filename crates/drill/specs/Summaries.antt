@@ -1,9 +1,9 @@
 -- What a drill prints: its summary, or its journal.
 use Rattle.std.specs.Prelude.{◌≡◌, ℕ, Bool, List, [], ◌∷◌, ◌++◌, count_by, length, codes, decimal, if◌then◌else◌}
-use Rattle.jk_model.specs.Journal.{chose}
-use Rattle.jk_model.specs.declared.journal.Entry.{Entry}
-use Rattle.jk_model.specs.declared.segment.Segment.{Segment}
-use Rattle.balancer_core.specs.Journal.{IsSegmentOf, Journal}
+use Rattle.lb_model.specs.Journal.{chose}
+use Rattle.lb_model.specs.declared.journal.Entry.{Entry}
+use Rattle.lb_model.specs.declared.segment.Segment.{Segment}
+use Rattle.lb_book.specs.Journal.{IsSegmentOf, Journal}
 use Rattle.journal_text.specs.SegmentText.{segment_text}
 use Rattle.drill.specs.Requests.{bodies_of}
 

@@ -1,6 +1,6 @@
 -- What a thread of a drill works with.
 use Rattle.std.specs.Prelude.{◌≡◌, ℕ, List, [], length, Some, None}
-use Rattle.balancer_core.specs.Desks.{DeskState}
+use Rattle.lb_book.specs.Desks.{DeskState}
 
 -- A desk with one part of the ledger, over balancers of these sizes, that holds no ticket and has a receipt of each entry
 -- that it added.

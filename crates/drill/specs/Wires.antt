@@ -1,9 +1,9 @@
 -- A wire in memory between a connector and a container, and what the container's application sent over it.
 use Rattle.std.specs.Prelude.{◌≡◌, ℕ, Bool, List, [], ◌∷◌, ◌++◌, Some}
 use Rattle.jk_io.specs.Moments.{Moment}
-use Rattle.mini_container.specs.declared.app_config.AppConfig.{AppConfig}
-use Rattle.mini_container.specs.declared.ends.ContainerEnd.{ContainerEnd}
-use Rattle.mini_container.specs.Ends.{IsTalk}
+use Rattle.ajp_container.specs.declared.app_config.AppConfig.{AppConfig}
+use Rattle.ajp_container.specs.declared.ends.ContainerEnd.{ContainerEnd}
+use Rattle.ajp_container.specs.Ends.{IsTalk}
 use Rattle.site_config.specs.declared.balancer.Lb.{Lb}
 
 -- What the connector wrote, of which the container is done with a front and has the rest to come; and what the container

@@ -1,6 +1,6 @@
 -- What a drill writes, how that ends, and the program's status. Read this after Ends.
 use Rattle.std.specs.Prelude.{◌≡◌, ℕ, ◌⊎◌, Bool, List, Option}
-use Rattle.balancer_core.specs.Journal.{Journal}
+use Rattle.lb_book.specs.Journal.{Journal}
 use Rattle.jk_io.specs.Told.{appended, PutsFront, Rose}
 use Rattle.drill.specs.Ends.{IsDrill, IsDrillError}
 use Rattle.drill.specs.declared.drill_error.DrillError.{DrillError}

@@ -1,12 +1,12 @@
 //! Whether a journal has each request of each thread.
 ghost use Rattle.std.specs.Prelude.{◌≡◌, ◌+◌, ◌^◌, ◌<◌, ◌≤◌, ◌++◌, ◌∷◌, [], ◌↔◌, ℕ, List, length, IsTrue, IsFalse, IfSome, IfNone, None, Some};
-ghost use Rattle.jk_model.specs.declared.journal.Entry.{Entry};
+ghost use Rattle.lb_model.specs.declared.journal.Entry.{Entry};
 ghost use Rattle.drill.specs.Drills.{AreAnswered, Chose, GaveBack, IsDrilled, entries_of};
 ghost use Rattle.drill.specs.Progress.{IsSoFar};
 ghost use Rattle.drill.specs.Requests.{requests_of};
 
 use crate::plan::Plan;
-use jk_model::{Answer, Call, Entry, Kind};
+use lb_model::{Answer, Call, Entry, Kind};
 
 /// What a journal has of a thread, as far as it is read: how many requests were answered whole, and the ticket of the one
 /// that is under way.

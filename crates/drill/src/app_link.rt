@@ -2,8 +2,8 @@
 ghost use Rattle.std.specs.Prelude.{◌≡◌, ◌<◌, ◌≤◌, ◌++◌, [], length, take, OnErr, IfOk, IsErrOf};
 
 use crate::wire::{Wire, copy_front};
+use ajp_container::{AppConfig, ContainerEnd, serve_ajp};
 use jk_io::{Bytes, IoError, Link, Meanings, NoMemory, Sink, Source};
-use mini_container::{AppConfig, ContainerEnd, serve_ajp};
 use std::alloc::Global;
 use std::marker::Model;
 

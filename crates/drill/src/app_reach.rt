@@ -3,8 +3,8 @@ ghost use Rattle.std.specs.Prelude.{◌≡◌, ◌≤◌, [], false};
 ghost use Rattle.jk_io.specs.Told.{Rose};
 
 use crate::app_link::AppLink;
+use ajp_container::AppConfig;
 use jk_io::{Beside, Bytes, IoError, Link, Meanings, Reach, Sink, Source};
-use mini_container::AppConfig;
 use site_config::Config;
 use std::alloc::Global;
 use std::marker::Model;

@@ -3,7 +3,7 @@ ghost use Rattle.std.specs.Prelude.{◌≡◌};
 ghost use Rattle.drill.specs.Bodies.{together};
 
 use jk_io::NoMemory;
-use jk_model::{RowSink, Served};
+use lb_model::{RowSink, Served};
 
 /// The bytes of the bodies in the rows that were put. It stays below 2^64.
 #[derive(Drop)]

@@ -2,9 +2,9 @@
 ghost use Rattle.std.specs.Prelude.{◌≡◌};
 ghost use Rattle.drill.specs.Written.{status_of_error};
 
-use balancer_core::Book;
 use jk_io::{Bytes, NoMemory};
-use site_closing::Discord;
+use lb_book::Book;
+use lb_closing::Discord;
 use std::marker::Brand;
 
 /// What a drill hands out.

@@ -3,7 +3,7 @@
 //! of one link: what the definitions of both say together.
 //!
 //! Own rules: which requests are made, the links in memory, the summary, and that a drill is lost exactly where its journal
-//! lacks a request (docs/DECISIONS.md). The laws' definitions are those of exchange, ajp_talk and mini_container, over AJPv1.3's
+//! lacks a request (docs/DECISIONS.md). The laws' definitions are those of exchange, ajp_talk and ajp_container, over AJPv1.3's
 //! spellings.
 //! Shapes: requests are numbered from 0, and thread t makes those with t as the rest by the number of threads, in sessions of
 //! at most 1,000; the journal is that of the Book, oldest entry first. Of a law, a talk's messages, turns and answers to asks have

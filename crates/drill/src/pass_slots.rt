@@ -1,19 +1,19 @@
 //! The threads of a drill that take turns at one Book, each with a pass.
 ghost use Rattle.std.specs.Prelude.{◌≡◌, ◌<◌, ◌≤◌, ℕ, [], ◌∷◌, length, map, vec_capacity, vec_len, IfOk, Some, slice_index_or};
-ghost use Rattle.jk_model.specs.Journal.{members};
-ghost use Rattle.pass_desk.specs.PassDesks.{table_in};
-ghost use Rattle.pass_desk.specs.Passes.{AreNewPasses};
-ghost use Rattle.pass_desk.specs.declared.pass_book.PassBook.{PassBook};
+ghost use Rattle.lb_model.specs.Journal.{members};
+ghost use Rattle.lb_passes.specs.PassDesks.{table_in};
+ghost use Rattle.lb_passes.specs.Passes.{AreNewPasses};
+ghost use Rattle.lb_passes.specs.declared.pass_book.PassBook.{PassBook};
 ghost use Rattle.drill.specs.Bodies.{all_together};
 ghost use Rattle.drill.specs.Counts.{AreMade, CountsDrill, IsMadeBy};
-ghost use Rattle.pass_desk.specs.Placed.{AreBack, AreEachBack, AreFrom, IsBack};
+ghost use Rattle.lb_passes.specs.Placed.{AreBack, AreEachBack, AreFrom, IsBack};
 
 use crate::body_sum::together;
 use crate::plan::{MAX_THREADS, Plan};
 use crate::site::DrillSite;
 use crate::thread::serve_thread;
 use jk_io::NoMemory;
-use pass_desk::{Pass, PassBook, PassList, PassPlace, PlacedDesk};
+use lb_passes::{Pass, PassBook, PassList, PassPlace, PlacedDesk};
 use std::alloc::Global;
 use std::sync::Wait;
 use std::thread::{self, Threads};

@@ -2,17 +2,17 @@
 ghost use Rattle.std.specs.Prelude.{◌≡◌, ◌≤◌, [], ◌∷◌, length, codes, true, IfOk};
 ghost use Rattle.exchange.specs.Requests.{sizes_of};
 ghost use Rattle.site_config.specs.declared.config.Named.TheVariants as named;
-ghost use Rattle.uri_map.specs.Sites.{stands_in};
+ghost use Rattle.site_mounts.specs.Sites.{stands_in};
 ghost use Rattle.drill.specs.Sites.{IsDrillBook, IsDrillSite, member_of, two_members};
 
+use ajp_container::AppConfig;
 use jk_io::{Bytes, ListOf, NoMemory};
-use jk_model::{Activation, FailList, LbConfig, MemberConfig, MemberList, Method};
-use mini_container::AppConfig;
+use lb_model::{Activation, FailList, LbConfig, MemberConfig, MemberList, Method};
 use site_config::{
     Config, EndList, Endpoint, IgnoredList, Lb, LbList, MemberLimits, Named, NamedList,
 };
+use site_mounts::{MapError, UriMap, read_map};
 use std::alloc::Global;
-use uri_map::{MapError, UriMap, read_map};
 
 /// The balancer's name.
 pub(crate) const BALANCER: &[u8] = b"lb";

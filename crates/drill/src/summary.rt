@@ -1,13 +1,13 @@
 //! The summary of a drill.
 ghost use Rattle.std.specs.Prelude.{◌≡◌, ◌++◌, IfOk, OnOk};
-ghost use Rattle.jk_model.specs.Journal.{chose as chose_of};
+ghost use Rattle.lb_model.specs.Journal.{chose as chose_of};
 ghost use Rattle.drill.specs.Requests.{bodies_of};
 ghost use Rattle.drill.specs.Summaries.{choices_of, compared_line, summary_line, summary_text};
 
 use crate::plan::Plan;
 use crate::requests::{following, size_of};
 use jk_io::{Bytes, NoMemory, put_decimal};
-use jk_model::{Answer, Entry};
+use lb_model::{Answer, Entry};
 use std::alloc::Global;
 
 /// Whether an entry chose a member.

@@ -15,10 +15,10 @@ use crate::body_sum::BodySum;
 use crate::plan::Plan;
 use crate::requests::Requests;
 use crate::site::DrillSite;
-use balancer_core::Desk;
 use client_session::{SessionSite, SessionStop, Surroundings, serve_session};
 use http_front::Inbox;
 use jk_io::{Bytes, Clock, Link, MemLink, NoMemory, NumberList, Peer, Reach, StepClock};
+use lb_book::Desk;
 use std::alloc::Global;
 
 /// What a thread's sessions have in common: the site, the thread's number, which is theirs too, and their client.

@@ -1,11 +1,11 @@
 -- Why an exchange ended as it did, by the desk and by the last talk.
 use Rattle.std.proofs.Common.{◌≡◌, ℕ, ◌+◌, ◌<◌, min, Bool, true, false, List, [], ◌∷◌, ◌++◌, Option, None, refl, sym, ap, ◌∙◌, subst, inl, inr, ◌⊎◌, arith, append_assoc, append-nil, if◌then◌else◌}
 use Rattle.jk_io.specs.Told.{Rose}
-use Rattle.jk_model.specs.declared.journal.Answer.{Answer}
-use Rattle.jk_model.specs.declared.journal.Answer.TheVariants as answer
-use Rattle.jk_model.specs.declared.refusal.Stray.{Stray}
-use Rattle.balancer_core.specs.Desks.{DeskState, MeetsNone, first_stray}
-use Rattle.balancer_core.specs.declared.receipt.Receipt.{Receipt}
+use Rattle.lb_model.specs.declared.journal.Answer.{Answer}
+use Rattle.lb_model.specs.declared.journal.Answer.TheVariants as answer
+use Rattle.lb_model.specs.declared.refusal.Stray.{Stray}
+use Rattle.lb_book.specs.Desks.{DeskState, MeetsNone, first_stray}
+use Rattle.lb_book.specs.declared.receipt.Receipt.{Receipt}
 use Rattle.ajp_talk.specs.Moments.{BodyAt}
 use Rattle.ajp_talk.specs.declared.ending.Cause.{Cause}
 use Rattle.exchange.specs.Clients.{EndsWith, GivesUp, MeetsAt}

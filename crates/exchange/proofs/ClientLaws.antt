@@ -4,7 +4,7 @@ use Rattle.std.proofs.lemmas.Bool.{cases_Bool}
 use Rattle.jk_io.specs.Told.{appended, IsEmpty, PutsFront, Rose}
 use Rattle.jk_io.specs.declared.reaching.Talk.{Talk}
 use Rattle.jk_io.specs.declared.failures.NoMemory.{NoMemory}
-use Rattle.jk_model.specs.declared.member.MemberConfig.{MemberConfig}
+use Rattle.lb_model.specs.declared.member.MemberConfig.{MemberConfig}
 use Rattle.ajp_request.specs.Writing.{Fits}
 use Rattle.ajp_reply.specs.declared.message.Message.{Message}
 use Rattle.ajp_reply.specs.declared.message.Message.TheVariants.{Ask, End}

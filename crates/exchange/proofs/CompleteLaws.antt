@@ -4,7 +4,7 @@ use Rattle.std.proofs.lemmas.List.{append_cancel_left}
 use Rattle.jk_io.specs.Told.{appended, Rose}
 use Rattle.jk_io.specs.declared.failures.NoMemory.{NoMemory}
 use Rattle.jk_io.specs.declared.reaching.Talk.{Talk}
-use Rattle.jk_model.specs.declared.member.MemberConfig.{MemberConfig}
+use Rattle.lb_model.specs.declared.member.MemberConfig.{MemberConfig}
 use Rattle.ajp_reply.specs.declared.message.Message.{Message}
 use Rattle.ajp_talk.specs.Complete.{Brings, HasWhole as HasWholeTalk, IsCompleted as IsTalkCompleted}
 use Rattle.jk_io.specs.Moments.{Moment}

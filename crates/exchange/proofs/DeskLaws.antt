@@ -3,21 +3,21 @@ use Rattle.std.proofs.Common.{◌≡◌, ℕ, List, [], ◌∷◌, ◌++◌, Opt
 use Rattle.std.proofs.lemmas.List.{append_assoc, append-nil, length-append}
 use Rattle.std.proofs.lemmas.List.Elements.{All-append, All-contains, All-cons, All-head, All-nil, All-push, Contains-push}
 use Rattle.std.specs.List.{All}
-use Rattle.jk_model.specs.declared.ask.Ask.{Ask}
-use Rattle.jk_model.specs.declared.journal.Answer.{Answer}
-use Rattle.jk_model.specs.declared.journal.Answer.TheVariants as answer
-use Rattle.jk_model.specs.declared.journal.Call.{Call}
-use Rattle.jk_model.specs.declared.journal.Call.TheVariants as call
-use Rattle.jk_model.specs.declared.journal.Outcome.{Outcome}
-use Rattle.jk_model.specs.declared.refusal.FullMark.{FullMark}
-use Rattle.jk_model.specs.declared.refusal.RoomError.{RoomError}
-use Rattle.jk_model.specs.declared.refusal.Stray.{Stray}
-use Rattle.balancer_core.specs.Desks.{Chooses, DeskState, Gains, IsDue, IsOwn, KeepsDesk, LeaseNote, MeetsStray, RefusesChoice, TakesBack, first_stray}
-use Rattle.balancer_core.specs.Returned.{HaveReturned}
-use Rattle.balancer_core.specs.declared.desk.Choice.{Choice}
-use Rattle.balancer_core.specs.declared.desk.Choice.TheVariants as choice
-use Rattle.balancer_core.specs.declared.receipt.Receipt.{Receipt}
-use Rattle.balancer_core.proofs.ReturnedLaws.{due_returned, have_returned-append, last_returned, none_chosen, round_returned, IsNoChoice}
+use Rattle.lb_model.specs.declared.ask.Ask.{Ask}
+use Rattle.lb_model.specs.declared.journal.Answer.{Answer}
+use Rattle.lb_model.specs.declared.journal.Answer.TheVariants as answer
+use Rattle.lb_model.specs.declared.journal.Call.{Call}
+use Rattle.lb_model.specs.declared.journal.Call.TheVariants as call
+use Rattle.lb_model.specs.declared.journal.Outcome.{Outcome}
+use Rattle.lb_model.specs.declared.refusal.FullMark.{FullMark}
+use Rattle.lb_model.specs.declared.refusal.RoomError.{RoomError}
+use Rattle.lb_model.specs.declared.refusal.Stray.{Stray}
+use Rattle.lb_book.specs.Desks.{Chooses, DeskState, Gains, IsDue, IsOwn, KeepsDesk, LeaseNote, MeetsStray, RefusesChoice, TakesBack, first_stray}
+use Rattle.lb_book.specs.Returned.{HaveReturned}
+use Rattle.lb_book.specs.declared.desk.Choice.{Choice}
+use Rattle.lb_book.specs.declared.desk.Choice.TheVariants as choice
+use Rattle.lb_book.specs.declared.receipt.Receipt.{Receipt}
+use Rattle.lb_book.proofs.ReturnedLaws.{due_returned, have_returned-append, last_returned, none_chosen, round_returned, IsNoChoice}
 use Rattle.exchange.specs.Rounds.{IsAskOrReturn, IsBack, IsDeskAfter, IsReceiptOf}
 use Rattle.exchange.specs.Steps.{IsNoLease}
 use Rattle.exchange.specs.Steps as no_lease_as

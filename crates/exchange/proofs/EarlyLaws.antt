@@ -3,7 +3,7 @@ use Rattle.std.proofs.Common.{◌≡◌, ℕ, ◌≤◌, Bool, true, List, [], �
 use Rattle.jk_io.specs.Moments.{Moment}
 use Rattle.jk_io.specs.Told.{appended, Rose}
 use Rattle.jk_io.specs.declared.reaching.Talk.{Talk}
-use Rattle.jk_model.specs.declared.refusal.Stray.{Stray}
+use Rattle.lb_model.specs.declared.refusal.Stray.{Stray}
 use Rattle.ajp_talk.specs.Moments.{BodyAt, Takes, data_at}
 use Rattle.ajp_talk.specs.declared.ending.TalkEnd.{TalkEnd}
 use Rattle.ajp_talk.specs.declared.ending.TalkEnd.TheVariants as ends
@@ -12,7 +12,7 @@ use Rattle.ajp_talk.specs.declared.plan.TalkPlan.{TalkPlan}
 use Rattle.forwarding.specs.FirstPiece.{first_len}
 use Rattle.http_front.specs.Body.{Data, dropped, reaches}
 use Rattle.site_config.specs.declared.endpoint.Endpoint.{Endpoint}
-use Rattle.balancer_core.specs.Desks.{RisesByOne}
+use Rattle.lb_book.specs.Desks.{RisesByOne}
 use Rattle.exchange.specs.Exchanges.{begun_with}
 use Rattle.exchange.specs.FirstPiece.{TakesFirst}
 use Rattle.exchange.specs.OneTalk.{Around, IsHeld, IsOneTalk, no_link}

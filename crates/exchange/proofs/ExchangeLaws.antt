@@ -1,9 +1,9 @@
 -- The rounds of an exchange, one after another.
 use Rattle.std.proofs.Common.{◌≡◌, ℕ, ◌+◌, ◌<◌, ◌≤◌, ◌^◌, Bool, true, false, List, [], ◌∷◌, length, slice_get, slice_index, Option, Some, None, refl, ap, ◌∙◌, subst, inl, inr, arith}
-use Rattle.jk_model.specs.Free.{is_in}
-use Rattle.jk_model.specs.declared.ask.Ask.{Ask}
-use Rattle.jk_model.specs.declared.member.MemberConfig.{MemberConfig}
-use Rattle.jk_model.specs.declared.refusal.Stray.{Stray}
+use Rattle.lb_model.specs.Free.{is_in}
+use Rattle.lb_model.specs.declared.ask.Ask.{Ask}
+use Rattle.lb_model.specs.declared.member.MemberConfig.{MemberConfig}
+use Rattle.lb_model.specs.declared.refusal.Stray.{Stray}
 use Rattle.jk_io.specs.Moments.{Moment}
 use Rattle.ajp_talk.specs.Moments.{BodyAt, IsUsed}
 use Rattle.std.proofs.lemmas.Option.{get_or_from_slice_get, slice_get_within}

@@ -5,8 +5,8 @@ use Rattle.jk_io.specs.Told.{appended}
 use Rattle.jk_io.specs.Talks.{failed_talk}
 use Rattle.jk_io.specs.declared.failures.NoMemory.{NoMemory}
 use Rattle.jk_io.specs.declared.reaching.Talk.{Talk}
-use Rattle.jk_model.specs.declared.member.MemberConfig.{MemberConfig}
-use Rattle.jk_model.specs.declared.refusal.Stray.{Stray}
+use Rattle.lb_model.specs.declared.member.MemberConfig.{MemberConfig}
+use Rattle.lb_model.specs.declared.refusal.Stray.{Stray}
 use Rattle.jk_io.specs.Moments.{Moment}
 use Rattle.ajp_talk.specs.declared.ending.TalkEnd.{TalkEnd}
 use Rattle.ajp_talk.specs.declared.plan.TalkPlan.{TalkPlan}

@@ -2,10 +2,10 @@
 use Rattle.std.proofs.Common.{◌≡◌, ℕ, ◌<◌, false, List, length, slice_index, Option, None, IfSome, refl, sym, ap, ◌∙◌, subst}
 use Rattle.jk_io.specs.declared.reaching.Beside.{Beside}
 use Rattle.jk_io.specs.declared.traits.streams.Meanings.{Ghosts}
-use Rattle.jk_model.specs.declared.ask.Ask.{Ask}
-use Rattle.balancer_core.specs.Desks.{Chooses, DeskState, KeepsDesk, LeaseNote, pair_of}
-use Rattle.balancer_core.specs.declared.desk.Choice.TheVariants as choice
-use Rattle.balancer_core.proofs.DeskLaws.{held_again}
+use Rattle.lb_model.specs.declared.ask.Ask.{Ask}
+use Rattle.lb_book.specs.Desks.{Chooses, DeskState, KeepsDesk, LeaseNote, pair_of}
+use Rattle.lb_book.specs.declared.desk.Choice.TheVariants as choice
+use Rattle.lb_book.proofs.DeskLaws.{held_again}
 use Rattle.http_front.specs.State.{failed_of, taken_of}
 use Rattle.http_front.specs.declared.head.Head.{Head}
 use Rattle.site_config.specs.declared.endpoint.Endpoint.{Endpoint}

@@ -1,14 +1,14 @@
 -- What a desk's answer makes of a round.
 use Rattle.std.proofs.Common.{◌≡◌, ℕ, ◌≤◌, ◌^◌, Bool, List, slice_get, Option, Some, None, refl, sym, ap, subst, inl, inr, arith}
 use Rattle.jk_io.specs.Answers.{Answers}
-use Rattle.jk_model.specs.declared.ask.Ask.{Ask}
-use Rattle.jk_model.specs.declared.member.MemberConfig.{MemberConfig}
-use Rattle.jk_model.specs.declared.refusal.FullMark.{FullMark}
-use Rattle.jk_model.specs.declared.refusal.RoomError.TheVariants as room
-use Rattle.jk_model.specs.declared.refusal.Stray.{Stray}
-use Rattle.balancer_core.specs.Desks.{Chooses, DeskState, LeaseNote, RefusesChoice, pair_of, without_last}
-use Rattle.balancer_core.specs.declared.desk.Choice.TheVariants as choice
-use Rattle.balancer_core.proofs.DeskLaws.{held_again}
+use Rattle.lb_model.specs.declared.ask.Ask.{Ask}
+use Rattle.lb_model.specs.declared.member.MemberConfig.{MemberConfig}
+use Rattle.lb_model.specs.declared.refusal.FullMark.{FullMark}
+use Rattle.lb_model.specs.declared.refusal.RoomError.TheVariants as room
+use Rattle.lb_model.specs.declared.refusal.Stray.{Stray}
+use Rattle.lb_book.specs.Desks.{Chooses, DeskState, LeaseNote, RefusesChoice, pair_of, without_last}
+use Rattle.lb_book.specs.declared.desk.Choice.TheVariants as choice
+use Rattle.lb_book.proofs.DeskLaws.{held_again}
 use Rattle.site_config.specs.declared.endpoint.Endpoint.{Endpoint}
 use Rattle.exchange.specs.Ends.{outcome_for}
 use Rattle.exchange.specs.OneTalk.{Around}

@@ -6,7 +6,7 @@ use Rattle.std.proofs.lemmas.Bool.{eqb-false}
 use Rattle.std.proofs.lemmas.Nat.{or_disjoint, or_lt}
 use Rattle.std.proofs.lemmas.Nat.Bits.{and_pow, bit_at-lt}
 use Rattle.std.specs.Int.{bit_at}
-use Rattle.jk_model.specs.Free.{is_in}
+use Rattle.lb_model.specs.Free.{is_in}
 
 unset : (t m : ℕ) → is_in t m ≡ false → bit_at t m ≡ 0
 unset t m out =

@@ -8,8 +8,8 @@ use Rattle.jk_io.specs.Told.{appended, IsEmpty}
 use Rattle.jk_io.specs.Talks.{IsNoteOf, failed_talk}
 use Rattle.jk_io.specs.declared.failures.NoMemory.{NoMemory}
 use Rattle.jk_io.specs.declared.reaching.Talk.{Talk}
-use Rattle.jk_model.specs.declared.member.MemberConfig.{MemberConfig}
-use Rattle.jk_model.specs.declared.refusal.Stray.{Stray}
+use Rattle.lb_model.specs.declared.member.MemberConfig.{MemberConfig}
+use Rattle.lb_model.specs.declared.refusal.Stray.{Stray}
 use Rattle.jk_io.specs.Moments.{Moment}
 use Rattle.ajp_talk.specs.Moments.{IsFrontOf, data_at}
 use Rattle.ajp_talk.specs.Owed.{first_packet, opening, ping_of, request_of}

@@ -2,11 +2,11 @@
 use Rattle.std.specs.Prelude.{◌≡◌, ℕ, ◌+◌, ◌≤◌, ◌⊎◌, Bool, true, false, List, [], ◌∷◌, ◌++◌, length, take, slice_get, Some, None, IfSome, Ok}
 use Rattle.jk_io.specs.Told.{appended, PutsFront, Rose}
 use Rattle.jk_io.specs.declared.reaching.Talk.{Talk}
-use Rattle.jk_model.specs.declared.member.MemberConfig.{MemberConfig}
-use Rattle.jk_model.specs.declared.journal.Answer.{Answer}
-use Rattle.jk_model.specs.declared.journal.Answer.TheVariants as answer
-use Rattle.balancer_core.specs.Desks.{DeskState, MeetsNone, RisesByOne, first_stray}
-use Rattle.balancer_core.specs.declared.receipt.Receipt.{Receipt}
+use Rattle.lb_model.specs.declared.member.MemberConfig.{MemberConfig}
+use Rattle.lb_model.specs.declared.journal.Answer.{Answer}
+use Rattle.lb_model.specs.declared.journal.Answer.TheVariants as answer
+use Rattle.lb_book.specs.Desks.{DeskState, MeetsNone, RisesByOne, first_stray}
+use Rattle.lb_book.specs.declared.receipt.Receipt.{Receipt}
 use Rattle.ajp_request.specs.Writing.{Fits}
 use Rattle.ajp_reply.specs.Stream.{Spelled}
 use Rattle.ajp_reply.specs.declared.message.Message.{Message}

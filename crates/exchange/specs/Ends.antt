@@ -6,9 +6,9 @@ use Rattle.ajp_talk.specs.declared.ending.Cause.TheVariants as cause_is
 use Rattle.ajp_talk.specs.declared.ending.TalkEnd.{TalkEnd}
 use Rattle.ajp_talk.specs.declared.ending.TalkEnd.TheVariants as ends
 use Rattle.http_front.specs.declared.head.Head.{Head}
-use Rattle.jk_model.specs.declared.journal.Kind.{Kind}
-use Rattle.jk_model.specs.declared.journal.Kind.TheVariants as kind
-use Rattle.jk_model.specs.declared.journal.Outcome.{Outcome}
+use Rattle.lb_model.specs.declared.journal.Kind.{Kind}
+use Rattle.lb_model.specs.declared.journal.Kind.TheVariants as kind
+use Rattle.lb_model.specs.declared.journal.Outcome.{Outcome}
 use Rattle.site_config.specs.declared.endpoint.Endpoint.{Endpoint}
 use Rattle.exchange.specs.Requests.{allows}
 use Rattle.exchange.specs.declared.ending.Ran.{Ran}

@@ -3,7 +3,7 @@ use Rattle.std.specs.Prelude.{◌≡◌, ℕ, ◌≤◌, ◌⊎◌, Bool, false,
 use Rattle.jk_io.specs.Moments.{Moment}
 use Rattle.jk_io.specs.Told.{appended, PutsFront, Rose}
 use Rattle.jk_io.specs.declared.reaching.Talk.{Talk}
-use Rattle.jk_model.specs.declared.refusal.Stray.{Stray}
+use Rattle.lb_model.specs.declared.refusal.Stray.{Stray}
 use Rattle.ajp_talk.specs.Moments.{BodyAt, IsUsed}
 use Rattle.ajp_talk.specs.declared.ending.Cause.{Cause}
 use Rattle.ajp_reply.specs.declared.stage.Stage.{Stage}

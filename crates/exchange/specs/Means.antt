@@ -2,7 +2,7 @@
 use Rattle.std.specs.Prelude.{ℕ, ◌≡◌, List, Option}
 use Rattle.jk_io.specs.declared.reaching.Beside.{Beside}
 use Rattle.jk_io.specs.declared.traits.streams.Meanings.{Ghosts}
-use Rattle.balancer_core.specs.Desks.{DeskState}
+use Rattle.lb_book.specs.Desks.{DeskState}
 use Rattle.exchange.specs.OneTalk.{Around, around}
 use Rattle.exchange.specs.Rounds.{Scene, scene}
 use Rattle.exchange.specs.declared.sides.Means.{Means}

@@ -9,8 +9,8 @@ use Rattle.http_front.specs.declared.head.Head.{Head}
 use Rattle.http_out.specs.declared.own_answers.OwnKind.{OwnKind}
 use Rattle.httpdate.specs.declared.date.HttpDate.{HttpDate}
 use Rattle.jk_io.specs.declared.traits.surroundings.Peer.{Peer}
-use Rattle.jk_model.specs.declared.ask.Ask.{Ask}
-use Rattle.jk_model.specs.declared.member.MemberConfig.{MemberConfig}
+use Rattle.lb_model.specs.declared.ask.Ask.{Ask}
+use Rattle.lb_model.specs.declared.member.MemberConfig.{MemberConfig}
 use Rattle.forwarding.specs.Recovery.{is_on, may_retry_of}
 use Rattle.forwarding.specs.declared.method.MethodKind.{MethodKind}
 use Rattle.forwarding.specs.declared.method.MethodKind.TheVariants as method
@@ -19,7 +19,7 @@ use Rattle.site_config.specs.Limits.{reply_limit}
 use Rattle.site_config.specs.declared.endpoint.Endpoint.{Endpoint}
 use Rattle.forwarding.specs.Ids.{ids_of}
 use Rattle.forwarding.specs.Routes.{routed_of}
-use Rattle.jk_model.specs.declared.ask.Terms.{Terms}
+use Rattle.lb_model.specs.declared.ask.Terms.{Terms}
 use Rattle.site_config.specs.declared.balancer.Lb.{Lb}
 use Rattle.exchange.specs.declared.request.Request.{Request}
 

@@ -4,18 +4,18 @@ use Rattle.std.specs.List.{All}
 use Rattle.jk_io.specs.Answers.{Answers}
 use Rattle.jk_io.specs.declared.traits.streams.Meanings.{Ghosts}
 use Rattle.jk_io.specs.declared.reaching.Beside.{Beside}
-use Rattle.jk_model.specs.declared.journal.Call.{Call}
-use Rattle.jk_model.specs.declared.journal.Call.TheVariants as call
-use Rattle.jk_model.specs.declared.journal.Outcome.{Outcome}
-use Rattle.jk_model.specs.declared.member.MemberConfig.{MemberConfig}
-use Rattle.jk_model.specs.declared.refusal.FullMark.{FullMark}
-use Rattle.jk_model.specs.declared.refusal.RoomError.TheVariants as room
-use Rattle.jk_model.specs.declared.refusal.Stray.{Stray}
-use Rattle.balancer_core.specs.Returned.{HaveReturned}
-use Rattle.balancer_core.specs.ToldBooks.{AreSound}
-use Rattle.balancer_core.specs.Desks.{Chooses, DeskState, LeaseNote, MeetsStray, RefusesChoice, TakesBack}
-use Rattle.balancer_core.specs.declared.receipt.Receipt.{Receipt}
-use Rattle.balancer_core.specs.declared.desk.Choice.TheVariants as choice
+use Rattle.lb_model.specs.declared.journal.Call.{Call}
+use Rattle.lb_model.specs.declared.journal.Call.TheVariants as call
+use Rattle.lb_model.specs.declared.journal.Outcome.{Outcome}
+use Rattle.lb_model.specs.declared.member.MemberConfig.{MemberConfig}
+use Rattle.lb_model.specs.declared.refusal.FullMark.{FullMark}
+use Rattle.lb_model.specs.declared.refusal.RoomError.TheVariants as room
+use Rattle.lb_model.specs.declared.refusal.Stray.{Stray}
+use Rattle.lb_book.specs.Returned.{HaveReturned}
+use Rattle.lb_book.specs.ToldBooks.{AreSound}
+use Rattle.lb_book.specs.Desks.{Chooses, DeskState, LeaseNote, MeetsStray, RefusesChoice, TakesBack}
+use Rattle.lb_book.specs.declared.receipt.Receipt.{Receipt}
+use Rattle.lb_book.specs.declared.desk.Choice.TheVariants as choice
 use Rattle.ajp_talk.specs.declared.ending.Cause.{Cause}
 use Rattle.ajp_reply.specs.declared.stage.Stage.{Stage}
 use Rattle.ajp_talk.specs.declared.ending.TalkEnd.{TalkEnd}

@@ -1,12 +1,12 @@
 -- The steps that an exchange is made of: what follows a round, by how its last talk ended.
 use Rattle.std.specs.Prelude.{◌≡◌, ℕ, ◌≤◌, ◌⊎◌, Bool, true, false, List, Option, Some, None, IfSome, if◌then◌else◌}
 use Rattle.jk_io.specs.Told.{appended, PutsFront, Rose}
-use Rattle.jk_model.specs.declared.ask.Ask.{Ask}
-use Rattle.jk_model.specs.declared.refusal.FullMark.{FullMark}
-use Rattle.jk_model.specs.declared.refusal.RoomError.TheVariants as room
-use Rattle.jk_model.specs.declared.refusal.Stray.{Stray}
-use Rattle.balancer_core.specs.Desks.{Chooses, DeskState, LeaseNote, RefusesChoice, pair_of, without_last}
-use Rattle.balancer_core.specs.declared.desk.Choice.TheVariants as choice
+use Rattle.lb_model.specs.declared.ask.Ask.{Ask}
+use Rattle.lb_model.specs.declared.refusal.FullMark.{FullMark}
+use Rattle.lb_model.specs.declared.refusal.RoomError.TheVariants as room
+use Rattle.lb_model.specs.declared.refusal.Stray.{Stray}
+use Rattle.lb_book.specs.Desks.{Chooses, DeskState, LeaseNote, RefusesChoice, pair_of, without_last}
+use Rattle.lb_book.specs.declared.desk.Choice.TheVariants as choice
 use Rattle.jk_io.specs.Moments.{Moment}
 use Rattle.ajp_talk.specs.declared.ending.Cause.{Cause}
 use Rattle.ajp_talk.specs.declared.ending.TalkEnd.{TalkEnd}

@@ -1,7 +1,7 @@
 -- The talks of one round: up to `retries` on the member, while each fails and its options allow another.
 use Rattle.std.specs.Prelude.{◌≡◌, ℕ, ◌+◌, ◌<◌, ◌⊎◌, Bool, true, List, [], ◌∷◌, length, IfOk, Result, Ok, Err}
 use Rattle.jk_io.specs.declared.failures.NoMemory.{NoMemory}
-use Rattle.jk_model.specs.declared.member.MemberConfig.{MemberConfig}
+use Rattle.lb_model.specs.declared.member.MemberConfig.{MemberConfig}
 use Rattle.ajp_request.specs.Writing.{Fits}
 use Rattle.ajp_talk.specs.declared.ending.TalkEnd.{TalkEnd}
 use Rattle.ajp_talk.specs.declared.plan.TalkPlan.{TalkPlan}

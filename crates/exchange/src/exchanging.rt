@@ -15,8 +15,8 @@ use crate::request::{Request, own_kind};
 use crate::rounds::one_round;
 use crate::sides::Means;
 use crate::tried::with_member;
-use balancer_core::Desk;
 use jk_io::{Clock, Link, NoMemory, Reach};
+use lb_book::Desk;
 use std::alloc::Global;
 
 /// Sends a request to members of its balancer until its client has an answer, or is to have none.

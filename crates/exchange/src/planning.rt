@@ -11,7 +11,7 @@ use ajp_talk::{TalkLimits, TalkPlan};
 use ajp_wire::EncodeError;
 use forwarding::{IdList, RecoveryOption, forward_packet, piece_of, routed, session_ids};
 use jk_io::{Bytes, NoMemory};
-use jk_model::{Ask, MemberConfig};
+use lb_model::{Ask, MemberConfig};
 use site_config::Endpoint;
 use std::alloc::Global;
 

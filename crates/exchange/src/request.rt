@@ -7,7 +7,7 @@ use http_front::Head;
 use http_out::OwnKind;
 use httpdate::HttpDate;
 use jk_io::Peer;
-use jk_model::Terms;
+use lb_model::Terms;
 use site_config::Lb;
 
 /// A client's request, and the balancer where it is mounted.

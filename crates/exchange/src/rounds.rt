@@ -1,12 +1,12 @@
 //! One round: the desk is asked, talks are held, the lease goes back.
 ghost use Rattle.std.specs.Prelude.{◌≡◌, ◌≤◌, ◌<◌, true, length, IfSome, IfOk, IfErr};
-ghost use Rattle.balancer_core.specs.Desks.{Chooses, KeepsDesk, holds, pair_of};
+ghost use Rattle.lb_book.specs.Desks.{Chooses, KeepsDesk, holds, pair_of};
 ghost use Rattle.exchange.specs.Requests.{ask_for, errand_of};
 ghost use Rattle.exchange.specs.Keeping.{KeepsMeans, MayAsk, TookFirst};
 ghost use Rattle.exchange.specs.Means.{scene_of};
 ghost use Rattle.exchange.specs.Ends.{outcome_for};
 ghost use Rattle.exchange.specs.Steps.{HandsBack, IsNoLease, IsStep};
-ghost use Rattle.jk_model.specs.declared.journal.TheConstants.{MOST_BYTES};
+ghost use Rattle.lb_model.specs.declared.journal.TheConstants.{MOST_BYTES};
 
 use crate::ending::{ExchangeEnd, Ran, RoundVerdict};
 use crate::request::Request;
@@ -14,10 +14,10 @@ use crate::sides::Means;
 use crate::talks::run_talks;
 use crate::target::{Target, target_of};
 use crate::verdicts::{outcome_of, verdict_of};
-use balancer_core::Desk;
-use balancer_core::desk::Choice;
 use jk_io::{Bytes, Clock, Link, Reach};
-use jk_model::{Ask, RoomError};
+use lb_book::Desk;
+use lb_book::desk::Choice;
+use lb_model::{Ask, RoomError};
 use std::alloc::Global;
 
 /// Asks the desk for a member that wasn't tried. Where it gives none, what follows.

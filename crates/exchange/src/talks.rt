@@ -17,7 +17,7 @@ use crate::verdicts::{bytes_of, tries_again};
 use ajp_talk::TalkEnd;
 use ajp_wire::EncodeError;
 use jk_io::{Bytes, Link, NoMemory, Reach};
-use jk_model::MOST_BYTES;
+use lb_model::MOST_BYTES;
 use std::alloc::Global;
 
 /// The bytes so far and those of one more talk.

@@ -2,7 +2,7 @@
 ghost use Rattle.std.specs.Prelude.{◌≡◌, ◌<◌, Some, length, slice_get};
 
 use crate::request::Request;
-use jk_model::MemberConfig;
+use lb_model::MemberConfig;
 use site_config::Endpoint;
 
 /// A member of a balancer, by its place there.

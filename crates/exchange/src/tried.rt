@@ -1,7 +1,7 @@
 //! The members that were tried, as a set of bits.
 ghost use Rattle.std.specs.Prelude.{◌≡◌, ◌+◌, ◌<◌, ◌^◌, false};
-ghost use Rattle.jk_model.specs.Free.{is_in};
-ghost use Rattle.jk_model.specs.declared.config.TheConstants.{MAX_MEMBERS};
+ghost use Rattle.lb_model.specs.Free.{is_in};
+ghost use Rattle.lb_model.specs.declared.config.TheConstants.{MAX_MEMBERS};
 
 /// The set with one more member.
 pub(crate) fn with_member(tried: u64, member: u32) -> u64

@@ -10,7 +10,7 @@ use ajp_reply::Stage;
 use ajp_talk::{Cause, TalkEnd, Told};
 use forwarding::may_retry;
 use http_front::Head;
-use jk_model::{FailList, Kind, Outcome};
+use lb_model::{FailList, Kind, Outcome};
 use site_config::Endpoint;
 
 fn allows(endpoint: &Endpoint, head: &Head, stage: Stage) -> bool

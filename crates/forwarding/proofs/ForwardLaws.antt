@@ -8,7 +8,7 @@ use Rattle.ajp_request.specs.declared.attribute.Attribute.{Attribute}
 use Rattle.ajp_request.specs.declared.forward.ForwardParts.{ForwardParts}
 use Rattle.http_front.specs.Fields.{HeaderLine}
 use Rattle.http_front.specs.declared.head.Head.{Head}
-use Rattle.jk_model.specs.declared.member.MemberConfig.{MemberConfig}
+use Rattle.lb_model.specs.declared.member.MemberConfig.{MemberConfig}
 use Rattle.site_config.specs.declared.endpoint.Endpoint.{Endpoint}
 use Rattle.forwarding.specs.Forwards.{attributes_for, forward_for, forward_with, line_for, route_for}
 

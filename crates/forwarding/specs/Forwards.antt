@@ -1,7 +1,7 @@
 -- The Forward Request that a request becomes for a member.
 use Rattle.std.specs.Prelude.{◌≡◌, ℕ, ◌<◌, ◌≤◌, Bool, false, List, [], ◌∷◌, ◌++◌, length, map, codes, Option, Some, None, if◌then◌else◌}
 use Rattle.jk_io.specs.Decimals.{trimmed}
-use Rattle.jk_model.specs.declared.member.MemberConfig.{MemberConfig}
+use Rattle.lb_model.specs.declared.member.MemberConfig.{MemberConfig}
 use Rattle.ajp_wire.specs.Packet.{packet}
 use Rattle.ajp_wire.specs.Spelling.{string}
 use Rattle.ajp_request.specs.Tables.{method_code}

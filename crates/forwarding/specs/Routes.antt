@@ -1,7 +1,7 @@
 -- The member that a request's session ids name.
 use Rattle.std.specs.Prelude.{ℕ, List, [], ◌∷◌, position, Option, Some, None, bytes_eq, option_and_then}
 use Rattle.std.specs.Option.{option_map}
-use Rattle.jk_model.specs.declared.member.MemberConfig.{MemberConfig}
+use Rattle.lb_model.specs.declared.member.MemberConfig.{MemberConfig}
 use Rattle.forwarding.specs.Ids.{cut_at}
 
 -- the route of an id is what follows its first dot

@@ -6,7 +6,7 @@ ghost use Rattle.forwarding.specs.Forwards.{attribute_for, attributes_for as att
 use ajp_request::{Attribute, AttributeList};
 use http_front::Head;
 use jk_io::{Bytes, NoMemory};
-use jk_model::MemberConfig;
+use lb_model::MemberConfig;
 use site_config::Endpoint;
 use std::alloc::Global;
 

@@ -13,7 +13,7 @@ use ajp_request::{Attribute, ForwardParts, encode_parts};
 use ajp_wire::{EncodeError, HeadPairs};
 use http_front::{Head, HeadLines};
 use jk_io::{Bytes, NoMemory, Peer, trim};
-use jk_model::MemberConfig;
+use lb_model::MemberConfig;
 use site_config::Endpoint;
 use std::alloc::Global;
 

@@ -1,12 +1,12 @@
 //! The member that a request's session ids name.
 ghost use Rattle.std.specs.Prelude.{◌≡◌, ◌≤◌, length};
 ghost use Rattle.forwarding.specs.Routes.{routed_of, member_named, member_with};
-ghost use Rattle.jk_model.specs.declared.config.TheConstants.{MAX_MEMBERS};
+ghost use Rattle.lb_model.specs.declared.config.TheConstants.{MAX_MEMBERS};
 
 use crate::cuts::cut_at;
 use crate::ids::IdList;
 use jk_io::Bytes;
-use jk_model::{MemberConfig, MemberList};
+use lb_model::{MemberConfig, MemberList};
 
 /// The member that the first id with a member's route names; where several members have that route, the first of them.
 /// A balancer has at most 64 members. No memory is taken.

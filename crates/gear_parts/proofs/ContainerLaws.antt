@@ -5,9 +5,9 @@ use Rattle.std.proofs.lemmas.List.{length-map}
 use Rattle.jk_io.specs.declared.reaching.Talk.{Talk}
 use Rattle.jk_io.specs.declared.traits.streams.Meanings.{Ghosts}
 use Rattle.jk_io.specs.Doors.{DoorSide}
-use Rattle.mini_container.specs.Served.{AreEachServed}
-use Rattle.mini_container.specs.declared.worker_ends.ContainerWorker.{ContainerWorker}
-use Rattle.mini_container.specs.declared.app_config.AppConfig.{AppConfig}
+use Rattle.ajp_container.specs.Served.{AreEachServed}
+use Rattle.ajp_container.specs.declared.worker_ends.ContainerWorker.{ContainerWorker}
+use Rattle.ajp_container.specs.declared.app_config.AppConfig.{AppConfig}
 use Rattle.gear_parts.specs.Gears.{GearSide, gear_side, KeepsRest}
 use Rattle.gear_parts.specs.declared.container.Rest.{Rest}
 use Rattle.gear_parts.specs.declared.world.Gear.{Gear}

@@ -3,8 +3,8 @@ use Rattle.std.proofs.Common.{ℕ, ◌≡◌, ◌<◌, ◌+◌, get_or, set, Lis
 use Rattle.std.specs.Prelude.{OnErr, OnOk}
 use Rattle.std.proofs.lemmas.List.{append-nil}
 use Rattle.jk_io.specs.Told.{appended}
-use Rattle.jk_model.specs.declared.segment.Segment.{Segment}
-use Rattle.balancer_core.specs.Journal.{Journal}
+use Rattle.lb_model.specs.declared.segment.Segment.{Segment}
+use Rattle.lb_book.specs.Journal.{Journal}
 use Rattle.gear_parts.specs.Cuts.{AddsCuts, AddsFront, AreCuts, ToFirst}
 use Rattle.gear_parts.specs.Steps.{AddsCut}
 use Rattle.gear_parts.specs.declared.world.Gear.{Gear}

@@ -2,9 +2,9 @@
 use Rattle.std.specs.Prelude.{ℕ, ◌≡◌, List, [], ◌∷◌, map, Option}
 use Rattle.jk_io.specs.declared.reaching.Talk.{Talk}
 use Rattle.jk_io.specs.declared.traits.streams.Meanings.{Ghosts}
-use Rattle.mini_container.specs.Served.{AreEachServed}
-use Rattle.mini_container.specs.declared.worker_ends.ContainerWorker.{ContainerWorker}
-use Rattle.mini_container.specs.declared.app_config.AppConfig.{AppConfig}
+use Rattle.ajp_container.specs.Served.{AreEachServed}
+use Rattle.ajp_container.specs.declared.worker_ends.ContainerWorker.{ContainerWorker}
+use Rattle.ajp_container.specs.declared.app_config.AppConfig.{AppConfig}
 use Rattle.jk_io.specs.Doors.{DoorSide}
 use Rattle.gear_parts.specs.Gears.{gear_side, GearSide}
 use Rattle.gear_parts.specs.declared.world.Gear.{Gear}

@@ -1,9 +1,9 @@
 -- The last segments of Books, and the shelf on which they are kept.
 use Rattle.std.specs.Prelude.{ℕ, ◌≡◌, ◌<◌, suc, List, [], ◌∷◌, ◌++◌, length, Option}
 use Rattle.jk_io.specs.Told.{appended}
-use Rattle.jk_model.specs.Legal.{IsLegal}
-use Rattle.jk_model.specs.declared.segment.Segment.{Segment}
-use Rattle.balancer_core.specs.Journal.{IsSegmentOf, Journal}
+use Rattle.lb_model.specs.Legal.{IsLegal}
+use Rattle.lb_model.specs.declared.segment.Segment.{Segment}
+use Rattle.lb_book.specs.Journal.{IsSegmentOf, Journal}
 use Rattle.gear_parts.specs.declared.world.Gear.{Gear}
 
 -- What each Book kept, from balancer lb on, one segment for each in order, legal from its opening.

@@ -4,7 +4,7 @@ use Rattle.std.specs.Prelude.{IsSome}
 use Rattle.jk_io.specs.declared.failures.IoError.{IoError}
 use Rattle.jk_io.specs.declared.failures.IoError.TheVariants as io
 use Rattle.jk_io.specs.declared.traits.streams.Meanings.{Ghosts}
-use Rattle.jk_model.specs.declared.served.Served.{Served}
+use Rattle.lb_model.specs.declared.served.Served.{Served}
 use Rattle.request_log.specs.LogRules.{gains_nothing, gains_on, is_some}
 use Rattle.request_log.specs.LogStates.{GainsRows, LogState}
 use Rattle.gear_parts.specs.GearLogs.{broken_by, Gains, log_faults}

@@ -5,10 +5,10 @@ use Rattle.jk_io.specs.declared.traits.streams.Link.{Ghosts as LinkGhosts}
 use Rattle.jk_io.specs.declared.traits.streams.Meanings.{Ghosts}
 use Rattle.jk_io.specs.declared.traits.surroundings.Dial.{Ghosts as DialGhosts}
 use Rattle.conn_pool.specs.Idle.{counts}
-use Rattle.locked_balancer.specs.Locks.{lock_of}
-use Rattle.locked_balancer.specs.SharedDesks.{SharedState, shared_desk}
-use Rattle.locked_balancer.specs.declared.shared_desk.Leaving.{Leaving}
-use Rattle.locked_balancer.specs.declared.site.SiteName.{Ghosts as SiteGhosts}
+use Rattle.lb_shared.specs.Locks.{lock_of}
+use Rattle.lb_shared.specs.SharedDesks.{SharedState, shared_desk}
+use Rattle.lb_shared.specs.declared.shared_desk.Leaving.{Leaving}
+use Rattle.lb_shared.specs.declared.site.SiteName.{Ghosts as SiteGhosts}
 use Rattle.conn_pool.specs.Watched.{WatchedState}
 use Rattle.conn_pool.specs.declared.aged_link.AgedLink.{AgedLink}
 use Rattle.conn_pool.specs.declared.watch.Watch.{Watch}

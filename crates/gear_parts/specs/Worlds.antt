@@ -6,9 +6,9 @@ use Rattle.jk_io.specs.declared.traits.streams.Meanings.{Ghosts}
 use Rattle.jk_io.specs.declared.traits.surroundings.Clock.{Ghosts as ClockGhosts}
 use Rattle.jk_io.specs.declared.traits.surroundings.Door.{Ghosts as DoorGhosts}
 use Rattle.site_config.specs.declared.config.Config.{Config}
-use Rattle.jk_model.specs.declared.segment.Segment.{Segment}
+use Rattle.lb_model.specs.declared.segment.Segment.{Segment}
 use Rattle.conn_pool.specs.declared.tape.Tape.{Ghosts as TapeGhosts}
-use Rattle.locked_balancer.specs.declared.shelf.Shelf.{Ghosts as ShelfGhosts}
+use Rattle.lb_shared.specs.declared.shelf.Shelf.{Ghosts as ShelfGhosts}
 use Rattle.gear_parts.specs.Gears.{AreGiven, gear_side, GearSide, KeepsRest}
 use Rattle.gear_parts.specs.Wants.{GearWants}
 use Rattle.gear_parts.specs.declared.world.Gear.{Gear}

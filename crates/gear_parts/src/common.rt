@@ -6,7 +6,7 @@ ghost use Rattle.conn_pool.specs.Looks.{ends_of};
 
 use conn_pool::{AgedLink, Idle, Pools, Watch};
 use jk_io::Dial;
-use locked_balancer::{SharedSite, SiteName};
+use lb_shared::{SharedSite, SiteName};
 use request_log::Format;
 use site_config::Config;
 

@@ -8,8 +8,8 @@ ghost use Rattle.gear_parts.specs.Gears.{KeepsRest};
 ghost use Rattle.gear_parts.specs.Putting.{PutsNext};
 
 use crate::world::Gear;
+use ajp_container::{AppConfig, ContainerRunEnd, ContainerWorkerList, run_container};
 use jk_io::{Door, NoMemory};
-use mini_container::{AppConfig, ContainerRunEnd, ContainerWorkerList, run_container};
 use std::alloc::Global;
 use std::sync::Wait;
 use std::thread::Threads;

@@ -4,7 +4,7 @@ ghost use Rattle.gear_parts.specs.GearLogs.{Gains, GreetsIf, broken_by, log_faul
 
 use crate::worker_log::WorkerLog;
 use jk_io::{IoError, NoMemory, Peer};
-use jk_model::{RowSink, Served};
+use lb_model::{RowSink, Served};
 use request_log::{Format, LogRows, Timed};
 use std::alloc::Global;
 use std::marker::Model;

@@ -1,14 +1,14 @@
 //! The last segments of Books, kept on the first gear's shelf.
 ghost use Rattle.std.specs.Prelude.{◌≡◌, ◌<◌, ◌≤◌, length, IsErrOf, OnErr, OnOk};
 ghost use Rattle.jk_io.specs.Told.{HasCause, Rose};
-ghost use Rattle.jk_model.specs.declared.config.TheConstants.{MAX_BALANCERS};
+ghost use Rattle.lb_model.specs.declared.config.TheConstants.{MAX_BALANCERS};
 ghost use Rattle.gear_parts.specs.Cuts.{AddsCuts, AddsFront, ToFirst};
 ghost use Rattle.gear_parts.specs.Steps.{AddsCut};
 
 use crate::world::Gear;
-use balancer_core::{Book, BookList};
 use jk_io::IoError;
-use locked_balancer::Shelf;
+use lb_book::{Book, BookList};
+use lb_shared::Shelf;
 
 /// Keeps the last segments on the first gear's shelf.
 pub fn keep_on_first<D, G, T, K, S: Shelf, O>(

@@ -1,6 +1,6 @@
 //! What a worker works with.
 
-use locked_balancer::{SharedDesk, Shelf, SiteName};
+use lb_shared::{SharedDesk, Shelf, SiteName};
 
 /// What a worker works with.
 #[derive(Drop)]

@@ -8,7 +8,7 @@ use crate::part::Part;
 use crate::world::Gear;
 use conn_pool::{Tape, WatchedReach};
 use jk_io::Dial;
-use locked_balancer::{Leaving, SharedDesk, Shelf, SiteName};
+use lb_shared::{Leaving, SharedDesk, Shelf, SiteName};
 use request_log::Timed;
 use std::alloc::Global;
 use std::sync::ledger::Share;

@@ -3,7 +3,7 @@ ghost use Rattle.std.specs.Prelude.{◌≡◌, ℕ, List, Option, None, Some};
 ghost use Rattle.gear_parts.specs.Logs.{BreaksLoudly};
 
 use jk_io::{IoError, Peer};
-use jk_model::RowSink;
+use lb_model::RowSink;
 
 /// A sink of rows that is told whose requests they are, and that may break.
 pub trait WorkerLog: RowSink {
@@ -12,7 +12,7 @@ pub trait WorkerLog: RowSink {
     ghost use Rattle.jk_io.specs.declared.failures.IoError.{IoError as AnyError};
     ghost use Rattle.jk_io.specs.declared.failures.IoError.TheVariants as io;
     ghost use Rattle.jk_io.specs.declared.traits.surroundings.Peer.{Peer as AnyPeer};
-    ghost use Rattle.jk_model.specs.declared.served.Served.{Served as AnyServed};
+    ghost use Rattle.lb_model.specs.declared.served.Served.{Served as AnyServed};
 
     // before, whose the next rows are, and after; where it isn't told, any may be
     ghost greets: { Self → AnyPeer → Self → Type 0 } = { λ _ _ _. Unit {0} };

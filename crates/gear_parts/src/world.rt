@@ -5,7 +5,7 @@ ghost use Rattle.jk_io.specs.Told.{HasCause, IsEmpty, appended};
 use crate::order::GearOrder;
 use conn_pool::Tape;
 use jk_io::{Bytes, Clock, Dial, Door, IoError};
-use locked_balancer::Shelf;
+use lb_shared::Shelf;
 use request_log::Timed;
 use std::alloc::Global;
 

@@ -1,7 +1,7 @@
 -- How a command that asks for workers or threads ends.
 use Rattle.std.proofs.Common.{ℕ, ◌≡◌, ◌≢◌, ◌⊎◌, true, false, ◌||◌, List, [], ◌∷◌, Result, Ok, inl, inr, refl, sym, ◌∙◌, arith}
-use Rattle.mini_container.specs.declared.worker_ends.ContainerWorker.{ContainerWorker}
-use Rattle.mini_container.specs.declared.worker_ends.ContainerWorker.TheVariants as container
+use Rattle.ajp_container.specs.declared.worker_ends.ContainerWorker.{ContainerWorker}
+use Rattle.ajp_container.specs.declared.worker_ends.ContainerWorker.TheVariants as container
 use Rattle.jk_cli.specs.declared.order.Order.{Order}
 use Rattle.jk_cli.specs.declared.order.Order.TheVariants as order
 use Rattle.jk_cli.specs.declared.order.WordsError.{WordsError}

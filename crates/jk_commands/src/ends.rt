@@ -4,8 +4,8 @@ ghost use Rattle.jk_commands.specs.Ends.{status_of};
 
 use drill::{DrillEnd, DrillError};
 use jk_server::CommandEnd;
-use locked_balancer::SiteStray;
-use site_closing::Discord;
+use lb_closing::Discord;
+use lb_shared::SiteStray;
 use std::marker::Brand;
 
 /// The status of a command that did what it was asked.

@@ -2,9 +2,9 @@
 use Rattle.std.proofs.Common.{ℕ, suc, ◌≡◌, ◌+◌, List, [], ◌∷◌, length, reverse, ap, ◌∙◌, refl, arith}
 use Rattle.std.specs.List.{All}
 use Rattle.std.proofs.lemmas.List.Elements.{All-cons, All-nil}
-use Rattle.jk_model.specs.declared.journal.Entry.{Entry}
-use Rattle.balancer_core.specs.Journal.{IsStart, Journal, next_number}
-use Rattle.locked_balancer.specs.Sites.{At, nexts_of}
+use Rattle.lb_model.specs.declared.journal.Entry.{Entry}
+use Rattle.lb_book.specs.Journal.{IsStart, Journal, next_number}
+use Rattle.lb_shared.specs.Sites.{At, nexts_of}
 use Rattle.site_reports.specs.Starts.{AreStarts}
 use Rattle.site_reports.proofs.StartLaws.{starts_each}
 use Rattle.site_config.specs.declared.balancer.Lb.{Lb}

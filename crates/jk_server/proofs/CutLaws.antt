@@ -3,20 +3,20 @@ use Rattle.std.proofs.Common.{ℕ, ◌≡◌, List, [], ◌∷◌, map, Option, 
 use Rattle.std.specs.Prelude.{OnErr}
 use Rattle.jk_io.specs.Told.{Rose}
 use Rattle.jk_io.specs.declared.reaching.Talk.{Talk}
-use Rattle.jk_model.specs.declared.opening.Opening.{Opening}
-use Rattle.jk_model.specs.declared.segment.Segment.{Segment}
-use Rattle.balancer_core.specs.Journal.{Journal}
+use Rattle.lb_model.specs.declared.opening.Opening.{Opening}
+use Rattle.lb_model.specs.declared.segment.Segment.{Segment}
+use Rattle.lb_book.specs.Journal.{Journal}
 use Rattle.jk_io.specs.Doors.{DoorSide}
 use Rattle.exchange.specs.Requests.{sizes_of}
-use Rattle.locked_balancer.specs.Histories.{SeatNote, starts_of}
-use Rattle.locked_balancer.specs.Sites.{AreSited}
+use Rattle.lb_shared.specs.Histories.{SeatNote, starts_of}
+use Rattle.lb_shared.specs.Sites.{AreSited}
 use Rattle.site_reports.specs.Starts.{AreStarts}
 use Rattle.site_config.specs.declared.balancer.Lb.{Lb}
 use Rattle.gear_parts.specs.Cuts.{AddsCuts, AddsFront, ToFirst}
 use Rattle.gear_parts.specs.Gears.{gear_side}
 use Rattle.gear_parts.specs.declared.world.Gear.{Gear}
-use Rattle.site_closing.specs.Closings.{DiscordNote}
-use Rattle.site_closing.specs.OneHistory.{IsWhole}
+use Rattle.lb_closing.specs.Closings.{DiscordNote}
+use Rattle.lb_closing.specs.OneHistory.{IsWhole}
 use Rattle.jk_server.specs.Headline.{AreEnded, firsts_of}
 use Rattle.jk_server.specs.Closings.{Closes, IsDiscordOf, KeepsFirst, Shelves, ShelvesFront}
 use Rattle.jk_server.specs.declared.runs.ends.Closing.{Closing}

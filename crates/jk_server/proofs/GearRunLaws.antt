@@ -12,7 +12,7 @@ use Rattle.request_log.specs.LogStates.{LogState}
 use Rattle.gear_parts.specs.Gears.{GearSide}
 use Rattle.jk_server.specs.Parts.{AreEach}
 use Rattle.jk_server.specs.declared.part.WorkerEnd.{WorkerEnd}
-use Rattle.locked_balancer.specs.Histories.{SeatNote}
+use Rattle.lb_shared.specs.Histories.{SeatNote}
 use Rattle.jk_server.specs.Runs.{AreServedGears, IsServedGear}
 use Rattle.jk_server.specs.Worker.{Keeps}
 

@@ -5,13 +5,13 @@ use Rattle.std.proofs.lemmas.List.Elements.{All-head, All-tail}
 use Rattle.jk_io.specs.Told.{Rose}
 use Rattle.jk_io.specs.declared.traits.streams.Meanings.{Ghosts}
 use Rattle.jk_io.specs.declared.traits.surroundings.Peer.{Peer}
-use Rattle.jk_model.specs.declared.journal.Entry.{Entry}
-use Rattle.jk_model.specs.declared.segment.Segment.{Segment}
-use Rattle.balancer_core.specs.Journal.{Journal}
-use Rattle.balancer_core.specs.Returned.{AreReturned, HaveReturned}
-use Rattle.balancer_core.specs.declared.receipt.Receipt.{Receipt}
+use Rattle.lb_model.specs.declared.journal.Entry.{Entry}
+use Rattle.lb_model.specs.declared.segment.Segment.{Segment}
+use Rattle.lb_book.specs.Journal.{Journal}
+use Rattle.lb_book.specs.Returned.{AreReturned, HaveReturned}
+use Rattle.lb_book.specs.declared.receipt.Receipt.{Receipt}
 use Rattle.client_session.specs.Requests.{Visit}
-use Rattle.locked_balancer.specs.Histories.{SeatNote, noted, own_in}
+use Rattle.lb_shared.specs.Histories.{SeatNote, noted, own_in}
 use Rattle.site_config.specs.declared.balancer.Lb.{Lb}
 use Rattle.request_log.specs.declared.format.Part.{Part as FormatPart}
 use Rattle.request_log.specs.LogStates.{LogState}

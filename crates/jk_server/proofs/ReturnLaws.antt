@@ -2,17 +2,17 @@
 use Rattle.std.proofs.Common.{ℕ, suc, ◌≡◌, ◌+◌, ◌≤◌, List, [], ◌∷◌, length, map, Option, refl, ap, arith}
 use Rattle.std.proofs.lemmas.List.{length-map}
 use Rattle.client_session.specs.Requests.{Visit}
-use Rattle.mini_container.specs.declared.worker_ends.ContainerWorker.{ContainerWorker}
+use Rattle.ajp_container.specs.declared.worker_ends.ContainerWorker.{ContainerWorker}
 use Rattle.jk_io.specs.declared.traits.streams.Meanings.{Ghosts}
 use Rattle.jk_io.specs.declared.traits.surroundings.Peer.{Peer}
-use Rattle.jk_model.specs.declared.segment.Segment.{Segment}
-use Rattle.mini_container.specs.declared.app_config.AppConfig.{AppConfig}
-use Rattle.locked_balancer.specs.Histories.{SeatNote}
+use Rattle.lb_model.specs.declared.segment.Segment.{Segment}
+use Rattle.ajp_container.specs.declared.app_config.AppConfig.{AppConfig}
+use Rattle.lb_shared.specs.Histories.{SeatNote}
 use Rattle.site_config.specs.declared.balancer.Lb.{Lb}
 use Rattle.request_log.specs.declared.format.Part.{Part as FormatPart}
 use Rattle.request_log.specs.LogStates.{LogState}
 use Rattle.gear_parts.specs.Gears.{GearSide}
-use Rattle.balancer_core.specs.Journal.{Journal}
+use Rattle.lb_book.specs.Journal.{Journal}
 use Rattle.jk_server.specs.Closings.{Closes, KeepsFirst}
 use Rattle.gear_parts.specs.Containers.{IsContainerRun, SameButDoors}
 use Rattle.jk_server.specs.Runs.{AreServedGears, IsSiteRun}

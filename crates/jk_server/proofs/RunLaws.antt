@@ -11,20 +11,20 @@ use Rattle.jk_io.specs.declared.failures.IoError.TheVariants as io
 use Rattle.jk_io.specs.declared.traits.surroundings.Peer.{Peer}
 use Rattle.jk_io.specs.Doors.{DoorSide, GaveAndGot, Gives, GivesNone}
 use Rattle.jk_io.proofs.DoorLaws.{none_came, none_more, one_more}
-use Rattle.jk_model.specs.declared.refusal.Stray.{Stray}
-use Rattle.balancer_core.specs.Desks.{DeskState, first_stray}
+use Rattle.lb_model.specs.declared.refusal.Stray.{Stray}
+use Rattle.lb_book.specs.Desks.{DeskState, first_stray}
 use Rattle.client_session.specs.Ends.{MeetsBy}
 use Rattle.client_session.specs.Ready.{IsReady}
 use Rattle.client_session.specs.Requests.{Visit, visit}
 use Rattle.client_session.specs.declared.ending.SessionEnd.{SessionEnd}
 use Rattle.client_session.specs.declared.ending.SessionStop.{SessionStop}
 use Rattle.client_session.specs.declared.ending.SessionStop.TheVariants as stop
-use Rattle.locked_balancer.specs.Histories.{SeatNote}
-use Rattle.locked_balancer.specs.Notes.{StrayNote}
-use Rattle.locked_balancer.specs.SharedDesks.{SharedState}
+use Rattle.lb_shared.specs.Histories.{SeatNote}
+use Rattle.lb_shared.specs.Notes.{StrayNote}
+use Rattle.lb_shared.specs.SharedDesks.{SharedState}
 use Rattle.site_config.specs.declared.config.Config.{Config}
 use Rattle.status_worker.specs.Desks.{KeepsTickets}
-use Rattle.uri_map.specs.declared.rule.Rule.{Rule}
+use Rattle.site_mounts.specs.declared.rule.Rule.{Rule}
 use Rattle.exchange.specs.Requests.{sizes_of}
 use Rattle.gear_parts.specs.Logs.{BreaksLoudly, LogTells}
 use Rattle.gear_parts.specs.declared.part.Part.{Part}

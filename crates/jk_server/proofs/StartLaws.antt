@@ -10,8 +10,8 @@ use Rattle.atomic_table.specs.Seated.{TableId}
 use Rattle.jk_io.specs.declared.reaching.Talk.{Talk}
 use Rattle.jk_io.specs.declared.traits.streams.Meanings.{Ghosts}
 use Rattle.jk_io.specs.declared.traits.surroundings.Peer.{Peer}
-use Rattle.jk_model.specs.declared.segment.Segment.{Segment}
-use Rattle.balancer_core.specs.Journal.{Journal}
+use Rattle.lb_model.specs.declared.segment.Segment.{Segment}
+use Rattle.lb_book.specs.Journal.{Journal}
 use Rattle.client_session.specs.Requests.{Visit}
 use Rattle.jk_io.specs.Doors.{DoorSide}
 use Rattle.site_config.specs.declared.balancer.Lb.{Lb}
@@ -28,8 +28,8 @@ use Rattle.gear_parts.specs.GearParts.{Start, start_of, unnumbered}
 use Rattle.conn_pool.specs.declared.watch.Watch.{Watch}
 use Rattle.jk_server.specs.Closings.{Closes}
 use Rattle.jk_server.specs.Runs.{AreServedGears, IsNew, IsSiteRun, IsServedGear, WorksWith}
-use Rattle.locked_balancer.specs.Histories.{SeatNote, noted, own_in}
-use Rattle.locked_balancer.specs.SharedDesks.{SharedState}
+use Rattle.lb_shared.specs.Histories.{SeatNote, noted, own_in}
+use Rattle.lb_shared.specs.SharedDesks.{SharedState}
 use Rattle.gear_parts.specs.Starts.{AreStarted}
 use Rattle.jk_server.specs.ServedGears.{IsBeginning, start_side}
 use Rattle.jk_server.specs.Started.{IsStartedRun, pool_table}

@@ -5,12 +5,12 @@ use Rattle.std.proofs.lemmas.Grind.{flat_map-append}
 use Rattle.std.proofs.lemmas.List.Elements.{All-head, All-tail}
 use Rattle.jk_io.specs.declared.traits.streams.Meanings.{Ghosts}
 use Rattle.jk_io.specs.declared.traits.surroundings.Peer.{Peer}
-use Rattle.jk_model.specs.declared.refusal.Stray.{Stray}
-use Rattle.balancer_core.specs.Desks.{DeskState, first_stray}
-use Rattle.balancer_core.specs.Returned.{HaveReturned}
-use Rattle.balancer_core.specs.declared.receipt.Receipt.{Receipt}
-use Rattle.balancer_core.proofs.ReturnedLaws.{have_returned-append}
-use Rattle.balancer_core.proofs.ToldLaws.{some_is}
+use Rattle.lb_model.specs.declared.refusal.Stray.{Stray}
+use Rattle.lb_book.specs.Desks.{DeskState, first_stray}
+use Rattle.lb_book.specs.Returned.{HaveReturned}
+use Rattle.lb_book.specs.declared.receipt.Receipt.{Receipt}
+use Rattle.lb_book.proofs.ReturnedLaws.{have_returned-append}
+use Rattle.lb_book.proofs.ToldLaws.{some_is}
 use Rattle.client_session.specs.Ends.{MeetsBy}
 use Rattle.client_session.specs.Requests.{Visit}
 use Rattle.client_session.specs.declared.ending.SessionStop.{SessionStop}

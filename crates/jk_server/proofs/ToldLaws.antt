@@ -7,15 +7,15 @@ use mathlib.Core.List.{map-append}
 use Rattle.atomic_table.specs.Seated.{TableId}
 use Rattle.jk_io.specs.declared.traits.streams.Meanings.{Ghosts}
 use Rattle.jk_io.specs.declared.traits.surroundings.Peer.{Peer}
-use Rattle.jk_model.specs.declared.journal.Entry.{Entry}
-use Rattle.balancer_core.specs.declared.receipt.Receipt.{Receipt}
+use Rattle.lb_model.specs.declared.journal.Entry.{Entry}
+use Rattle.lb_book.specs.declared.receipt.Receipt.{Receipt}
 use Rattle.client_session.specs.Requests.{Visit}
 use Rattle.jk_io.specs.Doors.{DoorSide}
-use Rattle.locked_balancer.specs.Histories.{HasGone, SeatNote, noted, own_in}
-use Rattle.locked_balancer.specs.SharedDesks.{SharedState}
-use Rattle.locked_balancer.specs.Shelves.{HasShelved, ShelfNote}
-use Rattle.locked_balancer.proofs.LeftLaws.{gone_none}
-use Rattle.locked_balancer.proofs.ShelfLaws.{shelved_none}
+use Rattle.lb_shared.specs.Histories.{HasGone, SeatNote, noted, own_in}
+use Rattle.lb_shared.specs.SharedDesks.{SharedState}
+use Rattle.lb_shared.specs.Shelves.{HasShelved, ShelfNote}
+use Rattle.lb_shared.proofs.LeftLaws.{gone_none}
+use Rattle.lb_shared.proofs.ShelfLaws.{shelved_none}
 use Rattle.jk_server.specs.Headline.{told_in}
 use Rattle.jk_server.specs.Served.{EndsAtLast, EndsBy, HaveRested, IsRun, IsServed, Run, left_by}
 use Rattle.jk_server.specs.Worker.{Begins, Keeps, WorkerSide}

@@ -1,11 +1,11 @@
 -- How the closing of a run ended: each balancer's last segment was kept on the first gear's shelf, or why not.
 use Rattle.std.specs.Prelude.{ℕ, ◌≡◌, ◌⊎◌, List, [], ◌∷◌, Option}
 use Rattle.jk_io.specs.Told.{appended, Rose}
-use Rattle.jk_model.specs.declared.journal.Entry.{Entry}
-use Rattle.jk_model.specs.declared.segment.Segment.{Segment}
-use Rattle.balancer_core.specs.Journal.{Journal}
-use Rattle.locked_balancer.specs.Histories.{SeatNote}
-use Rattle.site_closing.specs.Closings.{AreUncut, DiscordNote, IsDiscord, kept_from}
+use Rattle.lb_model.specs.declared.journal.Entry.{Entry}
+use Rattle.lb_model.specs.declared.segment.Segment.{Segment}
+use Rattle.lb_book.specs.Journal.{Journal}
+use Rattle.lb_shared.specs.Histories.{SeatNote}
+use Rattle.lb_closing.specs.Closings.{AreUncut, DiscordNote, IsDiscord, kept_from}
 use Rattle.site_config.specs.declared.balancer.Lb.{Lb}
 use Rattle.gear_parts.specs.Gears.{GearSide}
 use Rattle.gear_parts.specs.Cuts.{AddsFront, AreCuts}

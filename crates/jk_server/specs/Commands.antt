@@ -3,16 +3,16 @@
 use Rattle.std.specs.Prelude.{◌≡◌, ℕ, ◌-◌, ◌≤◌, ◌⊎◌, min, max, List, [], length, map, Option, Some, None, codes}
 use Rattle.std.specs.List.{All, AllZip}
 use Rattle.client_session.specs.Requests.{visit}
-use Rattle.mini_container.specs.declared.worker_ends.ContainerWorker.{ContainerWorker}
+use Rattle.ajp_container.specs.declared.worker_ends.ContainerWorker.{ContainerWorker}
 use Rattle.jk_cli.specs.declared.order.ServeOrder.{ServeOrder}
 use Rattle.jk_io.specs.Told.{appended, PutsFront, Rose}
 use Rattle.jk_io.specs.declared.traits.streams.Meanings.{Ghosts}
 use Rattle.jk_io.specs.declared.traits.surroundings.Files.{Ghosts as FilesGhosts}
-use Rattle.mini_container.specs.declared.app_config.AppConfig.{AppConfig}
+use Rattle.ajp_container.specs.declared.app_config.AppConfig.{AppConfig}
 use Rattle.site_reports.specs.Readings.{CommandOutside, OfFiles}
 use Rattle.site_reports.specs.Reports.{RefusesSite}
 use Rattle.site_config.specs.declared.config.Config.{Config}
-use Rattle.uri_map.specs.declared.rule.Rule.{Rule}
+use Rattle.site_mounts.specs.declared.rule.Rule.{Rule}
 use Rattle.request_log.specs.Formats.{IsFormat, IsRefusedFrom, refusal_line}
 use Rattle.request_log.specs.declared.format.Part.{Part as FormatPart}
 use Rattle.gear_parts.specs.Containers.{IsContainerRun}

@@ -1,7 +1,7 @@
 -- How a command ends by the ends of its workers.
 use Rattle.std.specs.Prelude.{ℕ, List, [], ◌∷◌}
-use Rattle.mini_container.specs.declared.worker_ends.ContainerWorker.{ContainerWorker}
-use Rattle.mini_container.specs.declared.worker_ends.ContainerWorker.TheVariants as container
+use Rattle.ajp_container.specs.declared.worker_ends.ContainerWorker.{ContainerWorker}
+use Rattle.ajp_container.specs.declared.worker_ends.ContainerWorker.TheVariants as container
 use Rattle.jk_io.specs.declared.failures.IoError.{IoError}
 use Rattle.jk_io.specs.declared.failures.IoError.TheVariants as io
 use Rattle.jk_server.specs.declared.runs.ends.Closing.{Closing}

@@ -10,17 +10,17 @@ use Rattle.std.specs.Prelude.{ℕ, ◌≡◌, ◌+◌, List, [], ◌∷◌, ◌+
 use Rattle.std.specs.List.{All, AllZip, Contains, flat_map}
 use Rattle.jk_io.specs.declared.traits.streams.Meanings.{Ghosts}
 use Rattle.jk_io.specs.declared.traits.surroundings.Peer.{Peer}
-use Rattle.jk_model.specs.declared.journal.Entry.{Entry}
-use Rattle.balancer_core.specs.Journal.{Journal}
-use Rattle.balancer_core.specs.Returned.{AreReturned}
-use Rattle.balancer_core.specs.declared.receipt.Receipt.{Receipt}
+use Rattle.lb_model.specs.declared.journal.Entry.{Entry}
+use Rattle.lb_book.specs.Journal.{Journal}
+use Rattle.lb_book.specs.Returned.{AreReturned}
+use Rattle.lb_book.specs.declared.receipt.Receipt.{Receipt}
 use Rattle.client_session.specs.Requests.{Visit}
 use Rattle.client_session.specs.declared.ending.SessionStop.TheVariants as stop
 use Rattle.exchange.specs.Requests.{sizes_of}
-use Rattle.locked_balancer.specs.Histories.{AreDistinct, IsSiteHistory, SeatNote, noted, own_in, starts_of}
-use Rattle.locked_balancer.specs.Sites.{AreSited}
+use Rattle.lb_shared.specs.Histories.{AreDistinct, IsSiteHistory, SeatNote, noted, own_in, starts_of}
+use Rattle.lb_shared.specs.Sites.{AreSited}
 use Rattle.site_reports.specs.Starts.{AreStarts}
-use Rattle.site_closing.specs.OneHistory.{IsWhole}
+use Rattle.lb_closing.specs.OneHistory.{IsWhole}
 use Rattle.site_config.specs.declared.balancer.Lb.{Lb}
 use Rattle.jk_server.specs.Served.{IsRun, IsStray, Run}
 use Rattle.jk_server.specs.Worker.{Keeps}

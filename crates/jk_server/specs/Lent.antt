@@ -3,16 +3,16 @@ use Rattle.std.specs.Prelude.{◌≡◌, ◌≤◌, ℕ, []}
 use Rattle.jk_io.specs.declared.reaching.Beside.{Beside}
 use Rattle.jk_io.specs.declared.traits.streams.Meanings.{Ghosts}
 use Rattle.jk_io.specs.declared.traits.surroundings.Clock.{Ghosts as ClockGhosts}
-use Rattle.jk_model.specs.declared.row_sink.RowSink.{Ghosts as RowGhosts}
-use Rattle.balancer_core.specs.Desks.{DeskState}
+use Rattle.lb_model.specs.declared.row_sink.RowSink.{Ghosts as RowGhosts}
+use Rattle.lb_book.specs.Desks.{DeskState}
 use Rattle.client_session.specs.Parts.{HasParts}
 use Rattle.client_session.specs.Requests.{visit_of}
 use Rattle.client_session.specs.Sessions.{Serves}
 use Rattle.client_session.specs.Standings.{standing}
 use Rattle.client_session.specs.declared.ending.SessionEnd.{SessionEnd}
-use Rattle.locked_balancer.specs.Loans.{state_in}
-use Rattle.locked_balancer.specs.SharedDesks.{SharedState}
-use Rattle.locked_balancer.specs.declared.lent_desk.DeskLoan.{DeskLoan}
+use Rattle.lb_shared.specs.Loans.{state_in}
+use Rattle.lb_shared.specs.SharedDesks.{SharedState}
+use Rattle.lb_shared.specs.declared.lent_desk.DeskLoan.{DeskLoan}
 use Rattle.jk_server.specs.declared.client.ShelfCounts.{ShelfCounts}
 use Rattle.jk_server.specs.declared.client.Visit.{Visit}
 

@@ -5,7 +5,7 @@ use Rattle.jk_io.specs.declared.traits.streams.Meanings.{Ghosts}
 use Rattle.jk_io.specs.declared.traits.surroundings.Clock.{Ghosts as ClockGhosts}
 use Rattle.jk_io.specs.declared.traits.surroundings.Door.{Ghosts as DoorGhosts}
 use Rattle.jk_io.specs.declared.traits.surroundings.Peer.{Peer}
-use Rattle.locked_balancer.specs.declared.shelf.Shelf.{Ghosts as ShelfGhosts}
+use Rattle.lb_shared.specs.declared.shelf.Shelf.{Ghosts as ShelfGhosts}
 use Rattle.client_session.specs.Requests.{Visit, visit}
 use Rattle.jk_io.specs.Doors.{DoorSide, side}
 use Rattle.gear_parts.specs.Logs.{LogTells}

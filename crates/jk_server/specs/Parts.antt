@@ -5,10 +5,10 @@ use Rattle.jk_io.specs.declared.traits.streams.Meanings.{Ghosts}
 use Rattle.jk_io.specs.declared.traits.surroundings.Peer.{Peer}
 use Rattle.client_session.specs.Requests.{Visit, visit}
 use Rattle.jk_io.specs.Doors.{DoorSide}
-use Rattle.locked_balancer.specs.declared.shared_desk.Leaving.{Leaving}
-use Rattle.locked_balancer.specs.declared.site.SiteName.{Ghosts as SiteGhosts}
+use Rattle.lb_shared.specs.declared.shared_desk.Leaving.{Leaving}
+use Rattle.lb_shared.specs.declared.site.SiteName.{Ghosts as SiteGhosts}
 use Rattle.site_config.specs.declared.config.Config.{Config}
-use Rattle.uri_map.specs.declared.rule.Rule.{Rule}
+use Rattle.site_mounts.specs.declared.rule.Rule.{Rule}
 use Rattle.jk_server.specs.Served.{IsServed}
 use Rattle.jk_server.specs.PartTells.{PartTells, worker_of}
 use Rattle.jk_server.specs.Worker.{IsFit, Keeps, WorkerSide}

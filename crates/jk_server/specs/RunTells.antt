@@ -5,9 +5,9 @@ use Rattle.jk_io.specs.declared.reaching.Talk.{Talk}
 use Rattle.jk_io.specs.declared.traits.streams.Meanings.{Ghosts}
 use Rattle.jk_io.specs.declared.traits.surroundings.Clock.{Ghosts as ClockGhosts}
 use Rattle.jk_io.specs.declared.traits.surroundings.Door.{Ghosts as DoorGhosts}
-use Rattle.jk_model.specs.declared.segment.Segment.{Segment}
+use Rattle.lb_model.specs.declared.segment.Segment.{Segment}
 use Rattle.jk_io.specs.Doors.{DoorSide, side}
-use Rattle.locked_balancer.specs.declared.shelf.Shelf.{Ghosts as ShelfGhosts}
+use Rattle.lb_shared.specs.declared.shelf.Shelf.{Ghosts as ShelfGhosts}
 use Rattle.request_log.specs.LogStates.{LogState}
 use Rattle.gear_parts.specs.GearLogs.{broken_by, Gains, GreetsIf, log_faults}
 use Rattle.gear_parts.specs.Gears.{gear_side, GearSide}

@@ -2,11 +2,11 @@
 use Rattle.std.specs.Prelude.{ℕ, ◌≡◌, ◌+◌, List, [], ◌∷◌, Option, None}
 use Rattle.jk_io.specs.declared.traits.streams.Meanings.{Ghosts}
 use Rattle.jk_io.specs.declared.traits.surroundings.Peer.{Peer}
-use Rattle.jk_model.specs.declared.segment.Segment.{Segment}
-use Rattle.balancer_core.specs.Journal.{Journal}
+use Rattle.lb_model.specs.declared.segment.Segment.{Segment}
+use Rattle.lb_book.specs.Journal.{Journal}
 use Rattle.client_session.specs.Requests.{Visit, visit}
-use Rattle.locked_balancer.specs.Histories.{SeatNote, noted, own_in}
-use Rattle.locked_balancer.specs.SharedDesks.{SharedState}
+use Rattle.lb_shared.specs.Histories.{SeatNote, noted, own_in}
+use Rattle.lb_shared.specs.SharedDesks.{SharedState}
 use Rattle.site_config.specs.declared.balancer.Lb.{Lb}
 use Rattle.request_log.specs.declared.format.Part.{Part as FormatPart}
 use Rattle.request_log.specs.LogStates.{LogState}

@@ -18,9 +18,9 @@ use Rattle.client_session.specs.declared.ending.SessionStop.{SessionStop}
 use Rattle.client_session.specs.declared.ending.SessionStop.TheVariants as stop
 use Rattle.client_session.specs.declared.ending.Why.TheVariants as why
 use Rattle.status_worker.specs.Desks.{KeepsTickets}
-use Rattle.locked_balancer.specs.Histories.{HasGone}
-use Rattle.locked_balancer.specs.SharedDesks.{SharedState}
-use Rattle.locked_balancer.specs.Shelves.{HasShelved}
+use Rattle.lb_shared.specs.Histories.{HasGone}
+use Rattle.lb_shared.specs.SharedDesks.{SharedState}
+use Rattle.lb_shared.specs.Shelves.{HasShelved}
 use Rattle.jk_server.specs.Worker.{Begins, Keeps, Rests, shelf_of, standing_with, took, WorkerSide}
 use Rattle.jk_server.specs.PartTells.{PartTells, worker_of}
 use Rattle.gear_parts.specs.declared.part.Part.{Part}

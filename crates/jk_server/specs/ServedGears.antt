@@ -4,15 +4,15 @@ use Rattle.std.specs.List.{All}
 use Rattle.atomic_table.specs.Seated.{TableId}
 use Rattle.jk_io.specs.declared.reaching.Talk.{Talk}
 use Rattle.jk_io.specs.Doors.{DoorSide}
-use Rattle.locked_balancer.specs.SharedDesks.{SharedState}
+use Rattle.lb_shared.specs.SharedDesks.{SharedState}
 use Rattle.gear_parts.specs.Gears.{GearSide}
 use Rattle.client_session.specs.Requests.{visit}
-use Rattle.locked_balancer.specs.declared.site.SiteName.{Ghosts as SiteGhosts}
+use Rattle.lb_shared.specs.declared.site.SiteName.{Ghosts as SiteGhosts}
 use Rattle.request_log.specs.declared.format.Part.{Part as FormatPart}
 use Rattle.request_log.specs.LogStates.{LogState}
 use Rattle.gear_parts.specs.GearLogs.{new_log, sink_of}
 use Rattle.gear_parts.specs.GearParts.{Start}
-use Rattle.locked_balancer.specs.declared.shared_desk.Leaving.{Leaving}
+use Rattle.lb_shared.specs.declared.shared_desk.Leaving.{Leaving}
 use Rattle.gear_parts.specs.declared.world.Gear.{Gear}
 use Rattle.jk_server.specs.Runs.{AreServedGears, IsNew}
 use Rattle.jk_server.specs.RunTells.{gears_at, RunTells}

@@ -1,14 +1,14 @@
 -- What the last cuts of a run did with the first gear's shelf, and how the closing ended by that.
 use Rattle.std.specs.Prelude.{ℕ, ◌≡◌, ◌⊎◌, List, [], Option}
 use Rattle.jk_io.specs.Told.{Rose}
-use Rattle.jk_model.specs.declared.journal.Entry.{Entry}
-use Rattle.jk_model.specs.declared.segment.Segment.{Segment}
-use Rattle.balancer_core.specs.Journal.{Journal}
-use Rattle.jk_model.specs.declared.opening.Opening.{Opening}
-use Rattle.locked_balancer.specs.Histories.{SeatNote}
-use Rattle.locked_balancer.specs.Sites.{AreSited}
-use Rattle.site_closing.specs.Closings.{DiscordNote}
-use Rattle.site_closing.specs.OneHistory.{DiffersWhole, IsWhole}
+use Rattle.lb_model.specs.declared.journal.Entry.{Entry}
+use Rattle.lb_model.specs.declared.segment.Segment.{Segment}
+use Rattle.lb_book.specs.Journal.{Journal}
+use Rattle.lb_model.specs.declared.opening.Opening.{Opening}
+use Rattle.lb_shared.specs.Histories.{SeatNote}
+use Rattle.lb_shared.specs.Sites.{AreSited}
+use Rattle.lb_closing.specs.Closings.{DiscordNote}
+use Rattle.lb_closing.specs.OneHistory.{DiffersWhole, IsWhole}
 use Rattle.gear_parts.specs.declared.world.Gear.{Gear}
 use Rattle.gear_parts.specs.Cuts.{AddsCuts, AddsFront, ToFirst}
 use Rattle.jk_server.specs.declared.runs.ends.Closing.{Closing}

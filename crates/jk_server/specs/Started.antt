@@ -3,17 +3,17 @@ use Rattle.std.specs.Prelude.{ℕ, ◌≡◌, ◌<◌, ◌≤◌, true, List, ma
 use Rattle.std.specs.List.{All}
 use Rattle.jk_io.specs.declared.traits.streams.Meanings.{Ghosts}
 use Rattle.jk_io.specs.declared.traits.surroundings.Peer.{Peer}
-use Rattle.jk_model.specs.declared.opening.Opening.{Opening}
-use Rattle.jk_model.specs.declared.segment.Segment.{Segment}
-use Rattle.balancer_core.specs.Journal.{Journal}
+use Rattle.lb_model.specs.declared.opening.Opening.{Opening}
+use Rattle.lb_model.specs.declared.segment.Segment.{Segment}
+use Rattle.lb_book.specs.Journal.{Journal}
 use Rattle.client_session.specs.Requests.{Visit, visit}
 use Rattle.exchange.specs.Requests.{sizes_of}
 use Rattle.site_config.specs.declared.balancer.Lb.{Lb}
-use Rattle.locked_balancer.specs.Histories.{SeatNote, starts_of}
+use Rattle.lb_shared.specs.Histories.{SeatNote, starts_of}
 use Rattle.site_reports.specs.Starts.{AreStarts}
 use Rattle.site_config.specs.declared.config.Config.{Config}
-use Rattle.uri_map.specs.Sites.{stands_in}
-use Rattle.uri_map.specs.declared.rule.Rule.{Rule}
+use Rattle.site_mounts.specs.Sites.{stands_in}
+use Rattle.site_mounts.specs.declared.rule.Rule.{Rule}
 use Rattle.request_log.specs.declared.format.Part.{Part as FormatPart}
 use Rattle.request_log.specs.LogStates.{LogState}
 use Rattle.gear_parts.specs.Gears.{GearSide}

@@ -6,7 +6,7 @@ use Rattle.jk_io.specs.declared.traits.surroundings.Peer.{Peer}
 use Rattle.client_session.specs.Requests.{Visit, visit}
 use Rattle.jk_io.specs.Doors.{DoorSide, GaveAndGot}
 use Rattle.site_config.specs.declared.config.Config.{Config}
-use Rattle.uri_map.specs.declared.rule.Rule.{Rule}
+use Rattle.site_mounts.specs.declared.rule.Rule.{Rule}
 use Rattle.gear_parts.specs.declared.part.Part.{Part}
 use Rattle.jk_server.specs.PartTells.{PartTells, visit_at, worker_of}
 use Rattle.jk_server.specs.Served.{count_of, HaveRested, IsRun, IsServed, Run, ServesPartClient}

@@ -6,16 +6,16 @@ use Rattle.jk_io.specs.declared.failures.IoError.{IoError}
 use Rattle.jk_io.specs.declared.reaching.Beside.{Beside}
 use Rattle.jk_io.specs.declared.traits.streams.Meanings.{Ghosts}
 use Rattle.jk_io.specs.declared.traits.surroundings.Peer.{Peer}
-use Rattle.balancer_core.specs.Desks.{DeskState}
+use Rattle.lb_book.specs.Desks.{DeskState}
 use Rattle.client_session.specs.Standings.{ReachSide, ClientStanding}
 use Rattle.exchange.specs.Requests.{sizes_of}
 use Rattle.gear_parts.specs.Logs.{LogTells}
-use Rattle.jk_model.specs.declared.segment.Segment.{Segment}
-use Rattle.locked_balancer.specs.SharedDesks.{SharedState, shelf_note}
-use Rattle.locked_balancer.specs.Shelves.{ShelfNote}
+use Rattle.lb_model.specs.declared.segment.Segment.{Segment}
+use Rattle.lb_shared.specs.SharedDesks.{SharedState, shelf_note}
+use Rattle.lb_shared.specs.Shelves.{ShelfNote}
 use Rattle.site_config.specs.declared.config.Config.{Config}
-use Rattle.uri_map.specs.Sites.{stands_in}
-use Rattle.uri_map.specs.declared.rule.Rule.{Rule}
+use Rattle.site_mounts.specs.Sites.{stands_in}
+use Rattle.site_mounts.specs.declared.rule.Rule.{Rule}
 
 -- Its desk, the answers that its clock is to give, what its reach tells, and where the rows of its requests are put.
 pub record WorkerSide (S Y : Type 0) : Type 0 where

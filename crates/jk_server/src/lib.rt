@@ -4,7 +4,7 @@
 //! statuses of both orders (docs/DECISIONS.md).
 //! Contract: `serve`, clause `serves`, and `contain`, clause `contains`, over a world that hands out gears; below them
 //! `serve_gears`, and `contain_gears` of gear_parts, clause `ran`, for gears; `serve_part`, clauses `served`, `fit` and `parts`,
-//! for a part; `run_container` of mini_container for containers. Read first:
+//! for a part; `run_container` of ajp_container for containers. Read first:
 //! specs/Commands.antt; then specs/Runs.antt, over specs/Served.antt and client_session's specs/Sessions.antt;
 //! specs/Closings.antt, and gear_parts' specs/Containers.antt.
 //! Errors: an order's end is a `CommandEnd`, which tells its status; a run's is `NoMemory`, after which no gear comes back, or
@@ -18,10 +18,10 @@ mod runs;
 mod serving;
 mod workers;
 
-pub use gear_parts::{ContainerRun, GearOrder, Part, contain_gears};
-pub use mini_container::{
+pub use ajp_container::{
     ContainerRunEnd, ContainerWorker, ContainerWorkerList, DoorList, run_container,
 };
+pub use gear_parts::{ContainerRun, GearOrder, Part, contain_gears};
 pub use orders::container::{ContainerOrder, MOST_ROUTE_BYTES, contain};
 pub use orders::ends::CommandEnd;
 pub use orders::serve::{cut_at, serve};

@@ -1,9 +1,9 @@
 //! What a worker works with, why it ends, and what it leaves.
 
 use jk_io::ListOf;
-use locked_balancer::SiteStray;
+use lb_shared::SiteStray;
 use site_config::Config;
-use uri_map::UriMap;
+use site_mounts::UriMap;
 
 /// The site that a worker serves, and the worker's number.
 #[derive(Clone, Copy)]

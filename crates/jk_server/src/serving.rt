@@ -12,11 +12,11 @@ use crate::part::{Post, WorkerEnd};
 use gear_parts::{Part, WorkerLog};
 use http_front::Inbox;
 use jk_io::{Arrival, Clock, Door, Reach, next_client};
-use locked_balancer::{Shelf, SiteName};
+use lb_shared::{Shelf, SiteName};
 use site_config::Config;
+use site_mounts::UriMap;
 use std::alloc::Global;
 use std::sync::Wait;
-use uri_map::UriMap;
 
 /// Serves the clients that the part's door gives, one after the other, until the worker ends. No talk of the reach runs,
 /// and the desk holds no ticket, before the call and after it. The log isn't broken before it.

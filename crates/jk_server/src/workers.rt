@@ -14,15 +14,15 @@ use crate::serving::serve_part;
 use conn_pool::{Tape, WatchedReach};
 use gear_parts::{Common, Gear, GearLog, Part, WorkerLog, gear_of, part_of};
 use jk_io::{Clock, Dial, Door, NoMemory, Reach};
-use locked_balancer::{Leaving, Shelf, SiteName};
+use lb_shared::{Leaving, Shelf, SiteName};
 use request_log::Timed;
 use site_config::Config;
+use site_mounts::UriMap;
 use std::alloc::Global;
 use std::sync::Wait;
 use std::sync::ledger::Share;
 use std::thread::{self, Threads};
 use std::vec::IntoIter;
-use uri_map::UriMap;
 
 /// The most worker threads of a run.
 pub const MAX_WORKERS: usize = 64;

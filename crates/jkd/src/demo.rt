@@ -5,6 +5,7 @@ ghost use Rattle.jk_server.specs.Commands.{telling};
 ghost use Rattle.jkd.specs.Demo.{ContainsDemo, ServesDemo, demo_container, demo_files, demo_front, demo_workers, port_of, route_of};
 
 use gear_parts::ToldWorld;
+use gear_worlds::World;
 use jk_cli::{ContainerRoute, Order, ServeOrder, ThreadCount};
 use jk_commands::{EndOf, JkdEnd, NO_MEMORY, let_go, run_jkd};
 use jk_io::{
@@ -14,7 +15,6 @@ use jk_io::{
 use std::alloc::Global;
 use std::sync::Wait;
 use std::thread::Threads;
-use worker_gears::World;
 
 /// Where the two containers are, on this machine.
 #[derive(Clone, Copy)]

@@ -2,6 +2,7 @@
 //! them, since it alone has a runtime that may be sent to a thread.
 use crate::demo::{DemoContainer, DemoPorts, contain_demo, demo_files, serve_demo};
 use crossbeam_channel::{Receiver, Sender};
+use gear_worlds::World;
 use jk_cli::{Order, WordsError};
 use jk_commands::{NO_MEMORY, let_go};
 use jk_io::{Bytes, Door, Source};
@@ -13,7 +14,6 @@ use std::io::{self, Input};
 use std::net::{Net, TcpListener, TcpStream};
 use std::sync::Wait;
 use std::thread::Threads;
-use worker_gears::World;
 
 /// The status of a demo whose input ended.
 const DONE: u8 = 0;

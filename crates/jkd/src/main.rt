@@ -22,6 +22,7 @@ mod write_sink;
 use arguments::{WordList, WordsError, read_words};
 use demo_threads::{DEMO_THREADS, Demo, demo_of, end_of, run_part, send_end};
 use effects::tell_effects;
+use gear_worlds::RealWorld;
 use jk_cli::read_words as read_order;
 use jk_commands::{NO_COMMAND, NO_MEMORY, OUTPUT_FAULT, let_go};
 use jk_io::{Bytes, IoError, NoMemory, Sink, write_all};
@@ -31,7 +32,6 @@ use real_io::StdOut;
 use std::process::ExitCode;
 use std::rt::Env;
 use std::thread;
-use worker_gears::RealWorld;
 
 fn print_text<O: Sink>(out: &mut O, text: &[u8]) -> u8 {
     match write_all(out, text) {

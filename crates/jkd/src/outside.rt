@@ -1,6 +1,7 @@
 //! What was read of the words, done over a world and the system's files and streams.
 use crate::ahead_files::{Ahead, AheadFiles};
 use crate::telling::{asks_stop, reason, tell};
+use gear_worlds::{Trouble, World};
 use jk_cli::{Order, WordsError};
 use jk_commands::{let_go, run_jkd};
 use jk_io::{Bytes, Door};
@@ -11,7 +12,6 @@ use std::net::Net;
 use std::rt::Files as SystemFiles;
 use std::sync::Wait;
 use std::thread::Threads;
-use worker_gears::{Trouble, World};
 
 /// How many worker threads are asked for.
 pub(crate) fn threads_of(asked: &Result<Order, WordsError>) -> u32 {

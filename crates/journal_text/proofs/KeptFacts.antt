@@ -2,8 +2,8 @@
 use Rattle.std.proofs.Common.{◌≡◌, ℕ, suc, zero, ◌⊎◌, List, [], ◌∷◌, ◌++◌, All, Some, None, inl, inr, ⊎_elim, subst}
 use Rattle.std.specs.Prelude.{slice_get}
 use Rattle.std.proofs.lemmas.List.Elements.{All-nil, All-cons, All-append}
-use Rattle.jk_model.specs.Segments.{AreKeptEntries, IsKeptEntry}
-use Rattle.jk_model.specs.declared.journal.Entry.{Entry}
+use Rattle.lb_model.specs.Segments.{AreKeptEntries, IsKeptEntry}
+use Rattle.lb_model.specs.declared.journal.Entry.{Entry}
 use Rattle.journal_text.specs.Ranges.{HasTicket, IsKeptCall}
 use Rattle.journal_text.specs.Kept.{IsKept}
 use Rattle.journal_text.specs.declared.counted.Counted.{Counted}

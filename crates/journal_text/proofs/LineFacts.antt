@@ -1,7 +1,7 @@
 -- The lines of the members, one by one.
 use Rattle.std.proofs.Common.{◌≡◌, ℕ, suc, zero, ◌+◌, ◌<◌, List, [], ◌∷◌, ◌++◌, length, get_or, take, refl, ap, arith, add-one}
-use Rattle.jk_model.specs.declared.member.MemberConfig.{MemberConfig}
-use Rattle.jk_model.specs.declared.view.MemberRow.{MemberRow}
+use Rattle.lb_model.specs.declared.member.MemberConfig.{MemberConfig}
+use Rattle.lb_model.specs.declared.view.MemberRow.{MemberRow}
 use Rattle.journal_text.specs.SegmentText.{member_line, member_lines}
 
 more : (ms : List MemberConfig) (rs : List MemberRow) (i : ℕ) (c : MemberConfig) (r : MemberRow) → i < length ms → i < length rs

@@ -3,12 +3,12 @@ use Rattle.std.proofs.Common.{◌≡◌, ℕ, ◌^◌, ◌<◌, ◌==◌, List, 
 use Rattle.std.specs.Str.{bytes_eq}
 use Rattle.std.proofs.lemmas.Bool.{cond-true, cond-false, cases_Bool, MatchBool-at_false}
 use Rattle.std.proofs.lemmas.Slice.Eq.{bytes_eq-Decides}
-use Rattle.jk_model.specs.declared.ask.Ask.{Ask}
-use Rattle.jk_model.specs.declared.change.Command.TheVariants as command
-use Rattle.jk_model.specs.declared.journal.Answer.{Answer}
-use Rattle.jk_model.specs.declared.journal.Answer.TheVariants as answer
-use Rattle.jk_model.specs.declared.journal.Call.{Call}
-use Rattle.jk_model.specs.declared.journal.Call.TheVariants as call
+use Rattle.lb_model.specs.declared.ask.Ask.{Ask}
+use Rattle.lb_model.specs.declared.change.Command.TheVariants as command
+use Rattle.lb_model.specs.declared.journal.Answer.{Answer}
+use Rattle.lb_model.specs.declared.journal.Answer.TheVariants as answer
+use Rattle.lb_model.specs.declared.journal.Call.{Call}
+use Rattle.lb_model.specs.declared.journal.Call.TheVariants as call
 use Rattle.play_script.specs.Parts.{parts_of}
 use Rattle.play_script.specs.Values.{◌>>=◌}
 use Rattle.journal_text.specs.Calls.{answer_words, call_words, term_words}

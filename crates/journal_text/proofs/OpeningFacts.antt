@@ -1,11 +1,11 @@
 -- A configuration is never refused, and a value out of its range makes no opening.
 use Rattle.std.proofs.Common.{◌≡◌, ℕ, suc, zero, ◌<◌, List, [], ◌∷◌, length, refl, sym, subst, arith}
 use Rattle.std.specs.Prelude.{Some, slice_get}
-use Rattle.jk_model.specs.Ranges.{IsRefused}
-use Rattle.jk_model.specs.declared.config.LbConfig.{LbConfig}
-use Rattle.jk_model.specs.declared.config_error.ConfigError.{ConfigError}
-use Rattle.jk_model.specs.declared.config_error.ConfigError.TheVariants as refusal
-use Rattle.jk_model.specs.declared.member.MemberConfig.{MemberConfig}
+use Rattle.lb_model.specs.Ranges.{IsRefused}
+use Rattle.lb_model.specs.declared.config.LbConfig.{LbConfig}
+use Rattle.lb_model.specs.declared.config_error.ConfigError.{ConfigError}
+use Rattle.lb_model.specs.declared.config_error.ConfigError.TheVariants as refusal
+use Rattle.lb_model.specs.declared.member.MemberConfig.{MemberConfig}
 use Rattle.journal_text.specs.Openings.{IsConfigured}
 use Rattle.journal_text.specs.declared.draft.OpeningDraft.{OpeningDraft}
 

@@ -3,8 +3,8 @@ use Rattle.std.proofs.Common.{◌≡◌, List, [], ◌∷◌, ◌++◌, ℕ, rev
 use Rattle.std.specs.Prelude.{IfNone, IfSome}
 use Rattle.std.proofs.lemmas.List.{get_or_append_left}
 use Rattle.std.proofs.lemmas.List.Elements.{All-nil}
-use Rattle.jk_model.proofs.ListFacts.{reverse_snoc}
-use Rattle.jk_model.specs.declared.segment.Segment.{Segment}
+use Rattle.lb_model.proofs.ListFacts.{reverse_snoc}
+use Rattle.lb_model.specs.declared.segment.Segment.{Segment}
 use Rattle.journal_text.specs.Kept.{IsKept}
 use Rattle.journal_text.specs.Pairs.{ArePairsOf, IsPairOf}
 use Rattle.journal_text.specs.declared.counted.Counted.{Counted}

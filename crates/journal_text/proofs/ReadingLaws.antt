@@ -3,14 +3,14 @@ use Rattle.std.proofs.Common.{◌≡◌, ℕ, ◌+◌, ◌<◌, List, [], ◌∷
 use Rattle.std.specs.Prelude.{MatchOption}
 use Rattle.std.proofs.lemmas.List.{same_lists}
 use Rattle.std.proofs.Props.{props}
-use Rattle.jk_model.specs.Multiple.{multiple_of}
-use Rattle.jk_model.specs.Ranges.{AreInRange, IsCount, IsPeriod, factors_in}
-use Rattle.jk_model.specs.Tickets.{Ticket}
-use Rattle.jk_model.specs.declared.member.MemberConfig.{MemberConfig}
-use Rattle.jk_model.specs.declared.member.Method.{Method}
-use Rattle.jk_model.specs.declared.config.LbConfig.{LbConfig}
-use Rattle.jk_model.specs.declared.opening.Opening.{Opening}
-use Rattle.jk_model.specs.declared.view.MemberRow.{MemberRow}
+use Rattle.lb_model.specs.Multiple.{multiple_of}
+use Rattle.lb_model.specs.Ranges.{AreInRange, IsCount, IsPeriod, factors_in}
+use Rattle.lb_model.specs.Tickets.{Ticket}
+use Rattle.lb_model.specs.declared.member.MemberConfig.{MemberConfig}
+use Rattle.lb_model.specs.declared.member.Method.{Method}
+use Rattle.lb_model.specs.declared.config.LbConfig.{LbConfig}
+use Rattle.lb_model.specs.declared.opening.Opening.{Opening}
+use Rattle.lb_model.specs.declared.view.MemberRow.{MemberRow}
 use Rattle.journal_text.specs.Readings.{line_of}
 use Rattle.journal_text.specs.declared.line.Beginning.{Beginning}
 use Rattle.journal_text.specs.declared.line.Line.{Line}

@@ -1,7 +1,7 @@
 -- What the reader of a text keeps of what it has read, so that it can be made segments.
 use Rattle.std.specs.Prelude.{ℕ, All}
-use Rattle.jk_model.specs.Segments.{AreKeptEntries, AreRules}
-use Rattle.jk_model.specs.Validity.{IsOpening}
+use Rattle.lb_model.specs.Segments.{AreKeptEntries, AreRules}
+use Rattle.lb_model.specs.Validity.{IsOpening}
 use Rattle.journal_text.specs.declared.counted.Counted.{Counted}
 use Rattle.journal_text.specs.declared.reader.TextPlace.{TextPlace}
 use Rattle.journal_text.specs.declared.reader.TextPlace.TheVariants as place

@@ -1,7 +1,7 @@
 -- The lines of a journal's text, each as its words.
 use Rattle.std.specs.Prelude.{ℕ, List, [], ◌∷◌, ◌++◌, codes, decimal}
 use Rattle.std.specs.List.{flat_map}
-use Rattle.jk_model.specs.declared.journal.Entry.{Entry}
+use Rattle.lb_model.specs.declared.journal.Entry.{Entry}
 use Rattle.journal_text.specs.Calls.{answer_words, call_words}
 use Rattle.journal_text.specs.Names.{name_word}
 use Rattle.journal_text.specs.Words.{activation_word, flag, method_word, optional, state_word}

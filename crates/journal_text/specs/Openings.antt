@@ -1,10 +1,10 @@
 -- The opening that the lines before an entry say, and whether a segment may begin with it.
 use Rattle.std.specs.Prelude.{◌≡◌, ℕ, ◌<◌, ◌≤◌, ◌==◌, List, length, count_by, slice_index_or}
-use Rattle.jk_model.specs.Tickets.{Ticket}
-use Rattle.jk_model.specs.declared.config.LbConfig.{LbConfig}
-use Rattle.jk_model.specs.declared.member.MemberConfig.{MemberConfig}
-use Rattle.jk_model.specs.declared.opening.Opening.{Opening}
-use Rattle.jk_model.specs.declared.view.MemberRow.{MemberRow}
+use Rattle.lb_model.specs.Tickets.{Ticket}
+use Rattle.lb_model.specs.declared.config.LbConfig.{LbConfig}
+use Rattle.lb_model.specs.declared.member.MemberConfig.{MemberConfig}
+use Rattle.lb_model.specs.declared.opening.Opening.{Opening}
+use Rattle.lb_model.specs.declared.view.MemberRow.{MemberRow}
 use Rattle.journal_text.specs.declared.line.Beginning.{Beginning}
 use Rattle.journal_text.specs.declared.line.MemberValues.{MemberValues}
 use Rattle.journal_text.specs.declared.draft.OpeningDraft.{OpeningDraft}

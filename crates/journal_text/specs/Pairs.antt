@@ -1,6 +1,6 @@
 -- The segments of a text, each with the name of its balancer.
 use Rattle.std.specs.Prelude.{◌≡◌, ℕ, List, [], ◌∷◌, Result, Ok, Err}
-use Rattle.jk_model.specs.declared.segment.Segment.{Segment}
+use Rattle.lb_model.specs.declared.segment.Segment.{Segment}
 use Rattle.journal_text.specs.Reading.{ReadsText, readable, unreadable}
 use Rattle.journal_text.specs.declared.counted.Counted.{Counted}
 use Rattle.journal_text.specs.declared.text_error.TextError.{TextError}

@@ -1,22 +1,22 @@
 -- The values that a line can hold: each is one of its field's type, and an entry is one that a segment keeps.
 use Rattle.std.specs.Prelude.{◌≡◌, ℕ, ◌^◌, ◌<◌, ◌≤◌, ◌==◌, All, List, Option, Some, None}
 use Rattle.std.specs.Bool.{MatchBool}
-use Rattle.jk_model.specs.Legal.{KnowsTerms}
-use Rattle.jk_model.specs.Limits.{most_bytes}
-use Rattle.jk_model.specs.Segments.{AreRules}
-use Rattle.jk_model.specs.declared.ask.Ask.{Ask}
-use Rattle.jk_model.specs.declared.change.Change.{Change}
-use Rattle.jk_model.specs.declared.change.Command.{Command}
-use Rattle.jk_model.specs.declared.change.Command.TheVariants as command
-use Rattle.jk_model.specs.declared.change.Redirect.{Redirect}
-use Rattle.jk_model.specs.declared.change.Redirect.TheVariants as redirect
-use Rattle.jk_model.specs.declared.journal.Answer.{Answer}
-use Rattle.jk_model.specs.declared.journal.Answer.TheVariants as answer
-use Rattle.jk_model.specs.declared.journal.Call.{Call}
-use Rattle.jk_model.specs.declared.journal.Call.TheVariants as call
-use Rattle.jk_model.specs.declared.journal.Entry.{Entry}
-use Rattle.jk_model.specs.declared.state.MemberState.{MemberState}
-use Rattle.jk_model.specs.declared.state.MemberState.TheVariants as state
+use Rattle.lb_model.specs.Legal.{KnowsTerms}
+use Rattle.lb_model.specs.Limits.{most_bytes}
+use Rattle.lb_model.specs.Segments.{AreRules}
+use Rattle.lb_model.specs.declared.ask.Ask.{Ask}
+use Rattle.lb_model.specs.declared.change.Change.{Change}
+use Rattle.lb_model.specs.declared.change.Command.{Command}
+use Rattle.lb_model.specs.declared.change.Command.TheVariants as command
+use Rattle.lb_model.specs.declared.change.Redirect.{Redirect}
+use Rattle.lb_model.specs.declared.change.Redirect.TheVariants as redirect
+use Rattle.lb_model.specs.declared.journal.Answer.{Answer}
+use Rattle.lb_model.specs.declared.journal.Answer.TheVariants as answer
+use Rattle.lb_model.specs.declared.journal.Call.{Call}
+use Rattle.lb_model.specs.declared.journal.Call.TheVariants as call
+use Rattle.lb_model.specs.declared.journal.Entry.{Entry}
+use Rattle.lb_model.specs.declared.state.MemberState.{MemberState}
+use Rattle.lb_model.specs.declared.state.MemberState.TheVariants as state
 use Rattle.journal_text.specs.declared.line.BalancerValues.{BalancerValues}
 use Rattle.journal_text.specs.declared.line.Beginning.{Beginning}
 use Rattle.journal_text.specs.declared.line.Line.{Line}

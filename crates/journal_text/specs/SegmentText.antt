@@ -1,12 +1,12 @@
 -- A segment as the lines of a journal's text.
 use Rattle.std.specs.Prelude.{ℕ, List, [], ◌∷◌, ◌++◌, length, map}
-use Rattle.jk_model.specs.Tickets.{Ticket}
-use Rattle.jk_model.specs.declared.config.LbConfig.{LbConfig}
-use Rattle.jk_model.specs.declared.journal.Entry.{Entry}
-use Rattle.jk_model.specs.declared.member.MemberConfig.{MemberConfig}
-use Rattle.jk_model.specs.declared.opening.Opening.{Opening}
-use Rattle.jk_model.specs.declared.segment.Segment.{Segment}
-use Rattle.jk_model.specs.declared.view.MemberRow.{MemberRow}
+use Rattle.lb_model.specs.Tickets.{Ticket}
+use Rattle.lb_model.specs.declared.config.LbConfig.{LbConfig}
+use Rattle.lb_model.specs.declared.journal.Entry.{Entry}
+use Rattle.lb_model.specs.declared.member.MemberConfig.{MemberConfig}
+use Rattle.lb_model.specs.declared.opening.Opening.{Opening}
+use Rattle.lb_model.specs.declared.segment.Segment.{Segment}
+use Rattle.lb_model.specs.declared.view.MemberRow.{MemberRow}
 use Rattle.journal_text.specs.Lines.{lines_text}
 use Rattle.journal_text.specs.declared.line.BalancerValues.{BalancerValues}
 use Rattle.journal_text.specs.declared.line.Beginning.{Beginning}

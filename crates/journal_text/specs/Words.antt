@@ -1,17 +1,17 @@
 -- How single values are written as words. Numbers are decimal, without leading zeros.
 use Rattle.std.specs.Prelude.{ℕ, Bool, List, ◌++◌, Option, Some, None, codes, decimal, if◌then◌else◌}
-use Rattle.jk_model.specs.declared.change.Redirect.{Redirect}
-use Rattle.jk_model.specs.declared.change.Redirect.TheVariants as redirect
-use Rattle.jk_model.specs.declared.journal.How.{How}
-use Rattle.jk_model.specs.declared.journal.How.TheVariants as how
-use Rattle.jk_model.specs.declared.journal.Kind.{Kind}
-use Rattle.jk_model.specs.declared.journal.Kind.TheVariants as kind
-use Rattle.jk_model.specs.declared.member.Activation.{Activation}
-use Rattle.jk_model.specs.declared.member.Activation.TheVariants as activation
-use Rattle.jk_model.specs.declared.member.Method.{Method}
-use Rattle.jk_model.specs.declared.member.Method.TheVariants as method
-use Rattle.jk_model.specs.declared.state.MemberState.{MemberState}
-use Rattle.jk_model.specs.declared.state.MemberState.TheVariants as state
+use Rattle.lb_model.specs.declared.change.Redirect.{Redirect}
+use Rattle.lb_model.specs.declared.change.Redirect.TheVariants as redirect
+use Rattle.lb_model.specs.declared.journal.How.{How}
+use Rattle.lb_model.specs.declared.journal.How.TheVariants as how
+use Rattle.lb_model.specs.declared.journal.Kind.{Kind}
+use Rattle.lb_model.specs.declared.journal.Kind.TheVariants as kind
+use Rattle.lb_model.specs.declared.member.Activation.{Activation}
+use Rattle.lb_model.specs.declared.member.Activation.TheVariants as activation
+use Rattle.lb_model.specs.declared.member.Method.{Method}
+use Rattle.lb_model.specs.declared.member.Method.TheVariants as method
+use Rattle.lb_model.specs.declared.state.MemberState.{MemberState}
+use Rattle.lb_model.specs.declared.state.MemberState.TheVariants as state
 
 -- `-` stands for no value
 abbrev pub optional : Option ℕ → List ℕ

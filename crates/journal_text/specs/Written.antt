@@ -1,7 +1,7 @@
 -- Which segments a text can hold: each value fits its word, each opening is whole, and rules 1 don't follow rules 2.
 use Rattle.std.specs.Prelude.{ℕ, ◌≤◌, List, [], ◌∷◌}
 use Rattle.std.specs.List.{flat_map}
-use Rattle.jk_model.specs.Validity.{IsOpening}
+use Rattle.lb_model.specs.Validity.{IsOpening}
 use Rattle.journal_text.specs.Lines.{lines_text}
 use Rattle.journal_text.specs.Ranges.{FitsLine}
 use Rattle.journal_text.specs.declared.line.Line.{Line}

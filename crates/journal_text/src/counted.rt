@@ -1,5 +1,5 @@
 use jk_io::{Bytes, ListOf};
-use jk_model::{EntryList, Opening, Segment};
+use lb_model::{EntryList, Opening, Segment};
 
 /// A segment as a text has it.
 #[derive(Drop)]

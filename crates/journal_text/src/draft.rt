@@ -1,13 +1,13 @@
 //! An opening, as its lines are read.
 ghost use Rattle.std.specs.Prelude.{◌≡◌, ℕ, ◌∷◌, [], ◌++◌, ◌<◌, ◌≤◌, ◌^◌, ◌==◌, length, count_by, IfOk, OnOk, MatchOption, IsTrue, ◌↔◌};
-ghost use Rattle.jk_model.specs.declared.opening.Opening.{Opening};
-ghost use Rattle.jk_model.specs.Validity.{IsOpening};
+ghost use Rattle.lb_model.specs.declared.opening.Opening.{Opening};
+ghost use Rattle.lb_model.specs.Validity.{IsOpening};
 ghost use Rattle.journal_text.specs.Openings.{AreCounted, IsOpened, config_of, row_of};
 ghost use Rattle.journal_text.specs.Reading.{is_full, with_member, with_ticket};
 
 use crate::{BalancerValues, Beginning, MemberValues};
 use jk_io::{Bytes, NoMemory};
-use jk_model::{LbConfig, MemberConfig, MemberList, MemberRow, Opening, RowList, TicketList};
+use lb_model::{LbConfig, MemberConfig, MemberList, MemberRow, Opening, RowList, TicketList};
 
 /// An opening as far as its lines are read.
 #[derive(Drop)]

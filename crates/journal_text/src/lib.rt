@@ -1,6 +1,6 @@
 //! The text of a journal: its lines, what each is written as and what it says, and segments written as lines, and read again.
 //!
-//! Source: own rules (docs/FORMATS.md, "Journal text"); the values are jk_model's.
+//! Source: own rules (docs/FORMATS.md, "Journal text"); the values are lb_model's.
 //! Own rule: a line is of its form only where it is just what its words say, written again: no leading zeros, no
 //! escape that isn't needed.
 //! Shapes: a segment is the line of its rules, the lines of its opening, one line for each entry, and its count. A line is words

@@ -1,6 +1,6 @@
 //! What a line of a journal's text says.
 use jk_io::Bytes;
-use jk_model::{Activation, Entry, MemberState, Method};
+use lb_model::{Activation, Entry, MemberState, Method};
 
 /// The values of a balancer in its line, beside its name.
 #[derive(Clone, Copy)]

@@ -2,14 +2,14 @@
 ghost use Rattle.std.specs.Prelude.{◌≡◌, ◌≤◌, IfSome};
 ghost use Rattle.std.specs.Str.{bytes_eq};
 ghost use Rattle.jk_io.specs.Decimals.{decimal_of};
-ghost use Rattle.jk_model.specs.Segments.{AreRules};
+ghost use Rattle.lb_model.specs.Segments.{AreRules};
 ghost use Rattle.play_script.specs.Values.{byte_count, flag_of, method_of, number_up_to, short_number};
 ghost use Rattle.journal_text.specs.Readings.{activation_of, ended, first, given, how_of, keyed, kind_of, later, redirect_of, state_of, version_of};
 ghost use Rattle.journal_text.specs.Wide.{wide_number};
 
 use crate::wide::wide_number;
 use jk_io::parse_decimal;
-use jk_model::{Activation, How, Kind, MOST_BYTES, MemberState, Method, Redirect};
+use lb_model::{Activation, How, Kind, MOST_BYTES, MemberState, Method, Redirect};
 use play_script::Parts;
 
 /// Nothing, where no word is left.

@@ -11,7 +11,7 @@ use crate::words::{
     put_number, put_optional, put_redirect, put_short, put_state, put_word,
 };
 use jk_io::{Bytes, NoMemory};
-use jk_model::{Answer, Ask, Call, Change, Command, Entry, Outcome};
+use lb_model::{Answer, Ask, Call, Change, Command, Entry, Outcome};
 
 fn put_terms(out: &mut Bytes, rules: u8, ask: &Ask) -> Result<(), NoMemory>
     ensures { OnOk result (out.new ≡ out.old ++ spaced (term_words rules ask.now)) }

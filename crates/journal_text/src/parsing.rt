@@ -1,7 +1,7 @@
 //! What the words of a line say, read off from the first one on.
 ghost use Rattle.std.specs.Prelude.{◌≡◌, ℕ, ◌-◌, ◌==◌, IfOk, IfSome, if◌then◌else◌};
 ghost use Rattle.journal_text.specs.Readings.{answer_by, answer_of, ask_after, ask_of, balancer_after, balancer_of, beginning_of, call_by, call_of, call_size, change_of, chosen_of, command_of, command_size, end_line, entry_after, entry_of, lease_line, member_after, member_of, past, plain_line, return_of, rules_line, update_of};
-ghost use Rattle.jk_model.specs.Legal.{KnowsTerms};
+ghost use Rattle.lb_model.specs.Legal.{KnowsTerms};
 ghost use Rattle.journal_text.specs.Ranges.{HasTicket, IsKeptCall, IsKeptLine};
 
 use crate::line::{BalancerValues, Beginning, Line, MemberValues};
@@ -9,7 +9,7 @@ use crate::line_reading::{
     activation_in, bytes_in, end, flag_in, given_activation_in, given_in, how_in, is, kind_in,
     long_in, method_in, redirect_in, short_in, state_in, version_in, wide_in,
 };
-use jk_model::{Activation, Answer, Ask, Call, Change, Command, Entry, Method, Outcome};
+use lb_model::{Activation, Answer, Ask, Call, Change, Command, Entry, Method, Outcome};
 use play_script::Parts;
 
 #[tactic(auto, unfolding(crate::specs::Readings::ask_after))]

@@ -1,9 +1,9 @@
 //! The reader of a text: where it stands, and what each line makes of that.
 ghost use Rattle.std.specs.Prelude.{◌≡◌, [], ◌∷◌, ◌++◌, ◌+◌, ◌≤◌, ◌<◌, ◌^◌, None, Some, true, false, All, length, IfNone, IfErr, IfOk, IfSome, MatchOption};
-ghost use Rattle.jk_model.specs.Segments.{AreRules};
+ghost use Rattle.lb_model.specs.Segments.{AreRules};
 ghost use Rattle.journal_text.specs.Ranges.{IsKeptLine};
-ghost use Rattle.jk_model.specs.Segments.{AreKeptEntries};
-ghost use Rattle.jk_model.specs.Validity.{IsOpening};
+ghost use Rattle.lb_model.specs.Segments.{AreKeptEntries};
+ghost use Rattle.lb_model.specs.Validity.{IsOpening};
 ghost use Rattle.journal_text.specs.Kept.{IsKept, IsSound};
 ghost use Rattle.journal_text.specs.Reading.{Heads, Opens, Refuses, TakesAt, TakesOpening, TakesText, at_start, begun, continued, held, is_body, is_end, is_over, named, opened, with_member, with_ticket};
 
@@ -12,7 +12,7 @@ use crate::draft::OpeningDraft;
 use crate::text_error::TextError;
 use crate::{Beginning, Line, MemberValues, read_line};
 use jk_io::{Bytes, NoMemory};
-use jk_model::{Entry, EntryList, MemberList, Opening, RowList, TicketList};
+use lb_model::{Entry, EntryList, MemberList, Opening, RowList, TicketList};
 use std::alloc::Global;
 
 /// Where a text is read.

@@ -8,7 +8,7 @@ use crate::counted::{Counted, CountedList, SegmentList};
 use crate::reading::read_counted;
 use crate::text_error::TextError;
 use jk_io::{Bytes, NoMemory};
-use jk_model::Segment;
+use lb_model::Segment;
 use std::alloc::Global;
 
 fn segment_of(counted: Counted) -> (Bytes, Segment)

@@ -3,7 +3,7 @@ ghost use Rattle.std.specs.Prelude.{◌≡◌, ◌∷◌, ◌++◌, OnOk, decima
 ghost use Rattle.journal_text.specs.Words.{activation_change, activation_word, flag, how_word, kind_word, method_word, optional, redirect_change, state_word};
 
 use jk_io::{Bytes, NoMemory, put_decimal};
-use jk_model::{Activation, How, Kind, MemberState, Method, Redirect};
+use lb_model::{Activation, How, Kind, MemberState, Method, Redirect};
 
 /// Adds a word after a space.
 pub(crate) fn put_word(out: &mut Bytes, word: &[u8]) -> Result<(), NoMemory>

@@ -1,6 +1,6 @@
 //! A segment, written.
 ghost use Rattle.std.specs.Prelude.{◌≡◌, ◌∷◌, [], ◌++◌, IfOk, OnOk, length};
-ghost use Rattle.jk_model.specs.declared.opening.Opening.{Opening};
+ghost use Rattle.lb_model.specs.declared.opening.Opening.{Opening};
 ghost use Rattle.journal_text.specs.Lines.{lines_text};
 ghost use Rattle.journal_text.specs.declared.line.Line.TheVariants as line;
 ghost use Rattle.journal_text.specs.SegmentText.{balancer_values, beginning, entry_lines, lease_lines, member_line, member_lines, member_values, opening_lines, segment_text};
@@ -10,7 +10,7 @@ use crate::{
     put_lease, put_member, put_rules,
 };
 use jk_io::{Bytes, NoMemory};
-use jk_model::{Entry, LbConfig, MemberConfig, MemberRow, Opening, Segment};
+use lb_model::{Entry, LbConfig, MemberConfig, MemberRow, Opening, Segment};
 
 /// What the line of a balancer says of its configuration.
 pub fn balancer_values(config: &LbConfig) -> BalancerValues

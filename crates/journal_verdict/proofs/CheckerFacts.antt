@@ -4,8 +4,8 @@ use Rattle.std.proofs.lemmas.Bool.{lt-ltb}
 use Rattle.std.proofs.lemmas.List.{append-nil, length-map}
 use Rattle.std.proofs.lemmas.List.Sums.{sum_by-cons, sum_by_push}
 use Rattle.std.specs.Prelude.{IsErrAnd, if◌then◌else◌}
-use Rattle.jk_model.specs.Present.{IsEnding}
-use Rattle.jk_model.specs.declared.opening.Opening.{Opening}
+use Rattle.lb_model.specs.Present.{IsEnding}
+use Rattle.lb_model.specs.declared.opening.Opening.{Opening}
 use Rattle.play_script.specs.Parts.{parts_of}
 use Rattle.journal_text.specs.declared.line.Line.TheVariants as line
 use Rattle.journal_text.specs.Kept.{IsSound}

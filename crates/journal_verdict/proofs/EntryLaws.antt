@@ -4,7 +4,7 @@ use Rattle.std.specs.Result.{IsErrAnd}
 use Rattle.journal_text.specs.Readings.{line_of}
 use Rattle.journal_text.specs.declared.line.Line.{Line}
 use Rattle.journal_text.specs.declared.line.Line.TheVariants as line
-use Rattle.jk_model.specs.declared.journal.Entry.{Entry}
+use Rattle.lb_model.specs.declared.journal.Entry.{Entry}
 use Rattle.journal_text.specs.declared.reader.Reader.{Reader}
 use Rattle.journal_verdict.specs.declared.ruling.Ruling.{Ruling}
 use Rattle.journal_verdict.specs.Lines.{DiffersEntry, IsBad, IsUnread, Refuses, RunState, Stand, Takes, TakesEntry, TakesLine, is_among}

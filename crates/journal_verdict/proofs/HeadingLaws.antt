@@ -3,10 +3,10 @@ use Rattle.std.proofs.Common.{◌≡◌, ℕ, zero, suc, ◌+◌, ◌≤◌, Lis
 use Rattle.std.specs.Prelude.{slice_get, slice_index_or}
 use Rattle.std.proofs.lemmas.List.{length-map}
 use Rattle.jk_io.specs.declared.failures.NoMemory.{NoMemory}
-use Rattle.jk_model.specs.Validity.{IsOpening}
-use Rattle.jk_model.specs.declared.member.MemberConfig.{MemberConfig}
-use Rattle.jk_model.specs.declared.opening.Opening.{Opening}
-use Rattle.jk_model.specs.declared.view.MemberRow.{MemberRow}
+use Rattle.lb_model.specs.Validity.{IsOpening}
+use Rattle.lb_model.specs.declared.member.MemberConfig.{MemberConfig}
+use Rattle.lb_model.specs.declared.opening.Opening.{Opening}
+use Rattle.lb_model.specs.declared.view.MemberRow.{MemberRow}
 use Rattle.journal_text.specs.Lines.{line_text}
 use Rattle.journal_text.specs.declared.line.Line.TheVariants as line
 use Rattle.journal_text.specs.SegmentText.{beginning, lease_lines, member_lines, opening_lines}

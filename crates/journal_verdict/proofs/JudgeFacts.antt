@@ -4,13 +4,13 @@ use Rattle.std.specs.Prelude.{slice_get}
 use Rattle.std.proofs.Math.Nat.{max-eq_left}
 use Rattle.std.proofs.lemmas.List.{reverse-append, take_all, take_more}
 use Rattle.std.proofs.lemmas.Option.{get_or_from_slice_get, slice_get_within}
-use Rattle.balancer_core.specs.Journal.{AddsEntry, IsSound, Journal, past_of}
-use Rattle.jk_model.specs.Journal.{moment_of}
-use Rattle.jk_model.specs.Legal.{IsLegal, IsLegalPast, IsNext}
-use Rattle.jk_model.specs.declared.journal.Answer.{Answer}
-use Rattle.jk_model.specs.declared.journal.Call.{Call}
-use Rattle.jk_model.specs.declared.journal.Entry.{Entry}
-use Rattle.jk_model.specs.declared.opening.Opening.{Opening}
+use Rattle.lb_book.specs.Journal.{AddsEntry, IsSound, Journal, past_of}
+use Rattle.lb_model.specs.Journal.{moment_of}
+use Rattle.lb_model.specs.Legal.{IsLegal, IsLegalPast, IsNext}
+use Rattle.lb_model.specs.declared.journal.Answer.{Answer}
+use Rattle.lb_model.specs.declared.journal.Call.{Call}
+use Rattle.lb_model.specs.declared.journal.Entry.{Entry}
+use Rattle.lb_model.specs.declared.opening.Opening.{Opening}
 use Rattle.journal_verdict.specs.Judging.{Follows, GoesOn, IsInTurn, JudgesEntries, RulesOn}
 use Rattle.journal_verdict.specs.Rulings.{Differs, IsFirstWrong, Refuses, RulesAfter}
 use Rattle.journal_verdict.specs.declared.ruling.Ruling.{Ruling}

@@ -1,10 +1,10 @@
 -- The run that a machine has, and what is shown of it.
 use Rattle.std.proofs.Common.{◌≡◌, ℕ, Bool, true, false, List, Option, Some, None, Result, Ok, Err, IfOk, inl, refl, subst, ◌∙◌}
-use Rattle.balancer_core.specs.Journal.{past_of}
+use Rattle.lb_book.specs.Journal.{past_of}
 use Rattle.jk_io.specs.declared.failures.NoMemory.{NoMemory}
-use Rattle.jk_model.specs.Present.{IsPresent}
-use Rattle.jk_model.specs.declared.journal.Entry.{Entry}
-use Rattle.jk_model.specs.declared.opening.Opening.{Opening}
+use Rattle.lb_model.specs.Present.{IsPresent}
+use Rattle.lb_model.specs.declared.journal.Entry.{Entry}
+use Rattle.lb_model.specs.declared.opening.Opening.{Opening}
 use Rattle.std.specs.Prelude.{reverse}
 use Rattle.journal_verdict.specs.Followed.{Follows, IsFollowed, IsOpened, IsShown}
 use Rattle.journal_verdict.specs.Lines.{RunState, Stand}

@@ -3,14 +3,14 @@ use Rattle.std.proofs.Common.{◌≡◌, ℕ, ◌+◌, ◌<◌, List, [], ◌∷
 use Rattle.std.specs.Prelude.{IfNone, IfOk, IfSome}
 use Rattle.std.proofs.lemmas.List.{length-map}
 use Rattle.std.proofs.lemmas.Option.{slice_get_within}
-use Rattle.balancer_core.specs.Ending.{IsCut}
-use Rattle.balancer_core.specs.Journal.{IsSound, Journal, past_of}
+use Rattle.lb_book.specs.Ending.{IsCut}
+use Rattle.lb_book.specs.Journal.{IsSound, Journal, past_of}
 use Rattle.jk_io.specs.declared.failures.NoMemory.{NoMemory}
-use Rattle.jk_model.specs.Legal.{IsLegal}
-use Rattle.jk_model.specs.Present.{IsEnding}
-use Rattle.jk_model.specs.Validity.{IsOpening}
-use Rattle.jk_model.specs.declared.journal.Entry.{Entry}
-use Rattle.jk_model.specs.declared.opening.Opening.{Opening}
+use Rattle.lb_model.specs.Legal.{IsLegal}
+use Rattle.lb_model.specs.Present.{IsEnding}
+use Rattle.lb_model.specs.Validity.{IsOpening}
+use Rattle.lb_model.specs.declared.journal.Entry.{Entry}
+use Rattle.lb_model.specs.declared.opening.Opening.{Opening}
 use Rattle.journal_text.specs.Lines.{line_text}
 use Rattle.journal_text.specs.declared.line.Line.TheVariants as line
 use Rattle.journal_text.specs.SegmentText.{entry_lines, opening_lines}

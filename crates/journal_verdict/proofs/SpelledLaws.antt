@@ -6,12 +6,12 @@ use Rattle.std.proofs.lemmas.Bool.{and_parts, cases_Bool, cond-true, cond-false,
 use Rattle.std.proofs.lemmas.Grind.{flat_map-append}
 use Rattle.std.proofs.lemmas.List.{append-nil, get_or-map, length-map, map-append, same_lists}
 use Rattle.std.proofs.lemmas.List.Splits.{join_with_byte-slice_split}
-use Rattle.jk_model.specs.Tickets.{Ticket}
-use Rattle.jk_model.specs.declared.journal.Entry.{Entry}
-use Rattle.jk_model.specs.declared.member.MemberConfig.{MemberConfig}
-use Rattle.jk_model.specs.declared.member.Method.{Method}
-use Rattle.jk_model.specs.declared.opening.Opening.{Opening}
-use Rattle.jk_model.specs.declared.view.MemberRow.{MemberRow}
+use Rattle.lb_model.specs.Tickets.{Ticket}
+use Rattle.lb_model.specs.declared.journal.Entry.{Entry}
+use Rattle.lb_model.specs.declared.member.MemberConfig.{MemberConfig}
+use Rattle.lb_model.specs.declared.member.Method.{Method}
+use Rattle.lb_model.specs.declared.opening.Opening.{Opening}
+use Rattle.lb_model.specs.declared.view.MemberRow.{MemberRow}
 use Rattle.play_script.specs.Parts.{parts_of}
 use Rattle.journal_text.specs.Lines.{line_text, lines_text}
 use Rattle.journal_text.specs.Readings.{line_of}

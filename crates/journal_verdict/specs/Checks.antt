@@ -1,11 +1,11 @@
 -- What segments come to, one after the other, and how many lines of a further one are read.
 use Rattle.std.specs.Prelude.{◌≡◌, ℕ, ◌+◌, ◌^◌, ◌<◌, ◌≤◌, ◌⊎◌, List, ◌++◌, length, reverse, Option, Some, None, Result, Ok, Err}
-use Rattle.balancer_core.specs.Journal.{Journal, past_of}
-use Rattle.jk_model.specs.Legal.{IsLegal}
-use Rattle.jk_model.specs.Present.{IsEnding}
-use Rattle.jk_model.specs.Validity.{IsOpening}
-use Rattle.jk_model.specs.declared.journal.Entry.{Entry}
-use Rattle.jk_model.specs.declared.opening.Opening.{Opening}
+use Rattle.lb_book.specs.Journal.{Journal, past_of}
+use Rattle.lb_model.specs.Legal.{IsLegal}
+use Rattle.lb_model.specs.Present.{IsEnding}
+use Rattle.lb_model.specs.Validity.{IsOpening}
+use Rattle.lb_model.specs.declared.journal.Entry.{Entry}
+use Rattle.lb_model.specs.declared.opening.Opening.{Opening}
 use Rattle.journal_text.specs.SegmentText.{opening_lines}
 use Rattle.journal_text.specs.Written.{lines_of}
 use Rattle.journal_text.specs.declared.counted.Counted.{Counted}

@@ -1,7 +1,7 @@
 -- What a text's bytes show of its balancer, however they came. Read first.
 use Rattle.std.specs.Prelude.{◌≡◌, ◌≢◌, ℕ, ◌+◌, ◌⊎◌, List, [], ◌∷◌, ◌++◌, length, reverse, Option, Some, None, Result, Ok, Err}
 use Rattle.std.specs.List.{All, flat_map}
-use Rattle.jk_model.specs.Present.{IsPresent}
+use Rattle.lb_model.specs.Present.{IsPresent}
 use Rattle.journal_verdict.specs.Lines.{Refuses, RunState, Stand, Takes, at_first}
 use Rattle.journal_verdict.specs.declared.error.FollowError.{FollowError}
 use Rattle.journal_verdict.specs.declared.error.FollowError.TheVariants as wrong

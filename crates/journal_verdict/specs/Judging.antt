@@ -1,10 +1,10 @@
 -- What the Book that replays a journal has at an entry.
 use Rattle.std.specs.Prelude.{◌≡◌, ◌≤◌, List, [], ◌∷◌, ◌++◌, Option, Some, None}
-use Rattle.balancer_core.specs.Journal.{Journal, next_number, past_of}
-use Rattle.jk_model.specs.Journal.{moment_of}
-use Rattle.jk_model.specs.Legal.{IsLegal, IsNext}
-use Rattle.jk_model.specs.Segments.{IsKeptEntry}
-use Rattle.jk_model.specs.declared.journal.Entry.{Entry}
+use Rattle.lb_book.specs.Journal.{Journal, next_number, past_of}
+use Rattle.lb_model.specs.Journal.{moment_of}
+use Rattle.lb_model.specs.Legal.{IsLegal, IsNext}
+use Rattle.lb_model.specs.Segments.{IsKeptEntry}
+use Rattle.lb_model.specs.declared.journal.Entry.{Entry}
 use Rattle.journal_verdict.specs.Rulings.{Differs, IsFirstWrong, RulesAfter}
 use Rattle.journal_verdict.specs.declared.ruling.Ruling.{Ruling}
 use Rattle.journal_verdict.specs.declared.ruling.Ruling.TheVariants as ruling

@@ -1,12 +1,12 @@
 -- What the code keeps of what is known.
 use Rattle.std.specs.Prelude.{◌≡◌, ◌≢◌, ℕ, ◌+◌, ◌-◌, ◌<◌, ◌⊎◌, slice_index_or, Bool, true, false, List, [], ◌∷◌, ◌++◌, length, reverse, Option, Some, None, Result, Ok, Err}
-use Rattle.balancer_core.specs.Journal.{past_of}
-use Rattle.jk_model.specs.Journal.{moment_of}
-use Rattle.jk_model.specs.Legal.{IsNext}
-use Rattle.jk_model.specs.Present.{IsEnding, IsPresent}
-use Rattle.jk_model.specs.Validity.{IsOpening}
-use Rattle.jk_model.specs.declared.journal.Entry.{Entry}
-use Rattle.jk_model.specs.declared.view.View.{View}
+use Rattle.lb_book.specs.Journal.{past_of}
+use Rattle.lb_model.specs.Journal.{moment_of}
+use Rattle.lb_model.specs.Legal.{IsNext}
+use Rattle.lb_model.specs.Present.{IsEnding, IsPresent}
+use Rattle.lb_model.specs.Validity.{IsOpening}
+use Rattle.lb_model.specs.declared.journal.Entry.{Entry}
+use Rattle.lb_model.specs.declared.view.View.{View}
 use Rattle.journal_verdict.specs.Rulings.{Differs}
 use Rattle.journal_verdict.specs.Verdicts.{opening_texts}
 use Rattle.journal_verdict.specs.declared.view.FollowView.{FollowView}

@@ -1,16 +1,16 @@
 -- What the check of a journal says of an entry: that it follows from those before it, or what it has and ought to have.
 use Rattle.std.specs.Prelude.{◌≡◌, ℕ, zero, suc, ◌+◌, ◌^◌, ◌<◌, ◌≤◌, true, false, List, length, reverse, take, slice_get, Some}
-use Rattle.balancer_core.specs.Commanded.{IsKnown}
-use Rattle.jk_model.specs.Journal.{maintained_of, members, moment_of, next_of}
-use Rattle.jk_model.specs.Legal.{HasValues, IsDoable, IsLegal, IsNext, taken_by}
-use Rattle.jk_model.specs.Limits.{most_numbers}
-use Rattle.jk_model.specs.Settings.{common_after}
-use Rattle.jk_model.specs.Tickets.{is_out, out}
-use Rattle.jk_model.specs.declared.change.Command.{Command}
-use Rattle.jk_model.specs.declared.journal.Call.{Call}
-use Rattle.jk_model.specs.declared.journal.Call.TheVariants as call
-use Rattle.jk_model.specs.declared.journal.Entry.{Entry}
-use Rattle.jk_model.specs.declared.opening.Opening.{Opening}
+use Rattle.lb_book.specs.Commanded.{IsKnown}
+use Rattle.lb_model.specs.Journal.{maintained_of, members, moment_of, next_of}
+use Rattle.lb_model.specs.Legal.{HasValues, IsDoable, IsLegal, IsNext, taken_by}
+use Rattle.lb_model.specs.Limits.{most_numbers}
+use Rattle.lb_model.specs.Settings.{common_after}
+use Rattle.lb_model.specs.Tickets.{is_out, out}
+use Rattle.lb_model.specs.declared.change.Command.{Command}
+use Rattle.lb_model.specs.declared.journal.Call.{Call}
+use Rattle.lb_model.specs.declared.journal.Call.TheVariants as call
+use Rattle.lb_model.specs.declared.journal.Entry.{Entry}
+use Rattle.lb_model.specs.declared.opening.Opening.{Opening}
 use Rattle.journal_verdict.specs.declared.ruling.Ruling.{Ruling}
 use Rattle.journal_verdict.specs.declared.ruling.Ruling.TheVariants as ruling
 

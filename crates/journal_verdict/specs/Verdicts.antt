@@ -1,8 +1,8 @@
 -- What the check of a journal's text says: that it is good, or the first line that differs.
 use Rattle.std.specs.Prelude.{◌≡◌, ℕ, ◌+◌, ◌<◌, List, [], ◌∷◌, ◌++◌, length, map, reverse, sum_by, slice_get, Option, Some, None, Result, Ok, Err}
-use Rattle.jk_model.specs.Legal.{IsLegal}
-use Rattle.jk_model.specs.Present.{IsEnding}
-use Rattle.jk_model.specs.declared.opening.Opening.{Opening}
+use Rattle.lb_model.specs.Legal.{IsLegal}
+use Rattle.lb_model.specs.Present.{IsEnding}
+use Rattle.lb_model.specs.declared.opening.Opening.{Opening}
 use Rattle.journal_text.specs.Lines.{line_text}
 use Rattle.journal_text.specs.Reading.{ReadsText, readable, unreadable}
 use Rattle.journal_verdict.specs.Rulings.{IsFirstWrong}

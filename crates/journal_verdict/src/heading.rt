@@ -1,13 +1,13 @@
 //! The opening that goes on where a run ended, line by line.
 ghost use Rattle.std.specs.Prelude.{◌≡◌, ◌<◌, ℕ, [], IfOk, IfSome, slice_index_or};
-ghost use Rattle.jk_model.specs.Validity.{IsOpening};
+ghost use Rattle.lb_model.specs.Validity.{IsOpening};
 ghost use Rattle.journal_verdict.specs.Verdicts.{opening_texts};
 ghost use Rattle.journal_verdict.specs.Machines.{Compares};
 
 use crate::joining::{count_lines, line_at};
 use crate::run::Run;
 use jk_io::{Bytes, NoMemory};
-use jk_model::{Opening, Segment};
+use lb_model::{Opening, Segment};
 use std::alloc::Global;
 
 /// The line of an opening at this place, from 0; empty past its end.

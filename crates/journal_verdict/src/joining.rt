@@ -1,16 +1,16 @@
 //! Openings, line by line: whether a later one is where the former segment ended.
 ghost use Rattle.std.specs.Prelude.{◌≡◌, ℕ, ◌+◌, ◌<◌, ◌++◌, [], Some, length, slice_get, IfOk, IfSome, IfNone, OnOk, IsTrue, ◌↔◌};
-ghost use Rattle.jk_model.specs.Validity.{IsOpening};
+ghost use Rattle.lb_model.specs.Validity.{IsOpening};
 ghost use Rattle.journal_text.specs.Lines.{line_text};
 ghost use Rattle.journal_text.specs.SegmentText.{member_line};
 ghost use Rattle.journal_verdict.specs.Verdicts.{IsDifference, opening_texts};
 
 use crate::ruling::{Ruling, Wrong};
 use jk_io::{Bytes, NoMemory};
-use jk_model::{MemberConfig, MemberRow, Opening};
 use journal_text::{
     balancer_values, beginning, member_values, put_balancer, put_beginning, put_lease, put_member,
 };
+use lb_model::{MemberConfig, MemberRow, Opening};
 use std::alloc::Global;
 
 /// How many lines an opening has: one for the balancer, for each member, for each ticket that is out, and the last.

@@ -1,15 +1,15 @@
 //! An entry of a kept journal, judged by the Book that is where the entry stands.
 ghost use Rattle.std.specs.Prelude.{◌≡◌, [], IfOk};
-ghost use Rattle.balancer_core.specs.Journal.{IsSound, past_of};
-ghost use Rattle.jk_model.specs.Journal.{moment_of};
-ghost use Rattle.jk_model.specs.Segments.{AreKeptEntries, IsKeptEntry};
-ghost use Rattle.jk_model.specs.declared.journal.Call.{Call};
+ghost use Rattle.lb_book.specs.Journal.{IsSound, past_of};
+ghost use Rattle.lb_model.specs.Journal.{moment_of};
+ghost use Rattle.lb_model.specs.Segments.{AreKeptEntries, IsKeptEntry};
+ghost use Rattle.lb_model.specs.declared.journal.Call.{Call};
 ghost use Rattle.journal_verdict.specs.Judging.{Follows, IsInTurn, JudgesEntries, RulesOn};
 
 use crate::ruling::{Ruling, Wrong};
-use balancer_core::{Book, Lease, Picked};
 use jk_io::NoMemory;
-use jk_model::{AdminError, Ask, Call, Command, Entry, Outcome, RoomError};
+use lb_book::{Book, Lease, Picked};
+use lb_model::{AdminError, Ask, Call, Command, Entry, Outcome, RoomError};
 
 // The journal names its tickets by number.
 fn spend(lease: Option<Lease>) {

@@ -1,6 +1,6 @@
 //! What is known after some lines, and what a further line makes of it.
 ghost use Rattle.std.specs.Prelude.{◌≡◌, ◌+◌, ◌<◌, ◌^◌, IfErr, IfOk, OnOk, true, false, None, Some};
-ghost use Rattle.jk_model.specs.Validity.{IsOpening};
+ghost use Rattle.lb_model.specs.Validity.{IsOpening};
 ghost use Rattle.journal_text.specs.Kept.{IsSound};
 ghost use Rattle.journal_text.specs.Reading.{TakesText, held};
 ghost use Rattle.journal_verdict.specs.Lines.{Refuses, RunState, Stand, Takes, at_first, is_among};

@@ -2,7 +2,7 @@
 
 use crate::ruling::Verdict;
 use jk_io::Bytes;
-use jk_model::Opening;
+use lb_model::Opening;
 
 /// What segments come to, where all of them are right.
 #[derive(Drop)]

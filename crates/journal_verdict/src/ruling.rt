@@ -1,5 +1,5 @@
 use jk_io::Bytes;
-use jk_model::Answer;
+use lb_model::Answer;
 
 /// What a line of a journal has, or ought to have.
 #[derive(Debug, Drop)]

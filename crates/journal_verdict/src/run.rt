@@ -1,15 +1,15 @@
 //! The last opening that is whole, and the entries after it.
 ghost use Rattle.std.specs.Prelude.{◌≡◌, [], IfErr, IfOk, true, false};
-ghost use Rattle.balancer_core.specs.Journal.{IsSound};
-ghost use Rattle.jk_model.specs.Segments.{AreRules};
-ghost use Rattle.jk_model.specs.Validity.{IsOpening};
+ghost use Rattle.lb_book.specs.Journal.{IsSound};
+ghost use Rattle.lb_model.specs.Segments.{AreRules};
+ghost use Rattle.lb_model.specs.Validity.{IsOpening};
 
 use crate::error::FollowError;
 use crate::judging::judge;
 use crate::ruling::Ruling;
-use balancer_core::Book;
 use jk_io::{Bytes, NoMemory};
-use jk_model::{Entry, Method, Opening};
+use lb_book::Book;
+use lb_model::{Entry, Method, Opening};
 
 /// A balancer whose journal is followed.
 #[derive(Drop)]
@@ -25,11 +25,11 @@ pub(crate) struct Run {
 
 impl Run {
     ghost use Rattle.std.specs.Prelude.{◌≡◌, ◌++◌, ◌∷◌, [], IfErr, IfOk, OnOk, true, false};
-    ghost use Rattle.balancer_core.specs.Journal.{past_of};
-    ghost use Rattle.jk_model.specs.Journal.{moment_of};
-    ghost use Rattle.jk_model.specs.Legal.{IsNext};
-    ghost use Rattle.jk_model.specs.Segments.{AreRules, IsKeptEntry};
-    ghost use Rattle.jk_model.specs.Validity.{IsOpening};
+    ghost use Rattle.lb_book.specs.Journal.{past_of};
+    ghost use Rattle.lb_model.specs.Journal.{moment_of};
+    ghost use Rattle.lb_model.specs.Legal.{IsNext};
+    ghost use Rattle.lb_model.specs.Segments.{AreRules, IsKeptEntry};
+    ghost use Rattle.lb_model.specs.Validity.{IsOpening};
     ghost use Rattle.journal_verdict.specs.Lines.{RunState};
     ghost use Rattle.journal_verdict.specs.Machines.{DiffersBy, EndsRun, IsRun, TakesOn};
 

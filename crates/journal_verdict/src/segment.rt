@@ -1,9 +1,9 @@
 //! A further segment of a journal, judged after those before it.
 ghost use Rattle.std.specs.Prelude.{◌≡◌, ◌+◌, ◌<◌, ◌^◌, [], length, IfNone, IfOk, IfSome, OnOk};
-ghost use Rattle.balancer_core.specs.Ending.{IsCut};
-ghost use Rattle.balancer_core.specs.Journal.{IsSound};
-ghost use Rattle.jk_model.specs.Segments.{AreKeptEntries, AreRules};
-ghost use Rattle.jk_model.specs.Validity.{IsOpening};
+ghost use Rattle.lb_book.specs.Ending.{IsCut};
+ghost use Rattle.lb_book.specs.Journal.{IsSound};
+ghost use Rattle.lb_model.specs.Segments.{AreKeptEntries, AreRules};
+ghost use Rattle.lb_model.specs.Validity.{IsOpening};
 ghost use Rattle.journal_text.specs.Kept.{IsKept};
 ghost use Rattle.journal_text.specs.Written.{lines_of};
 ghost use Rattle.journal_verdict.specs.Checks.{After, Ends, EndsAt, IsFormer, IsOtherCount, JudgesOpening, Leaves, LeavesAs};
@@ -13,10 +13,10 @@ use crate::joining::first_difference;
 use crate::judging::judge_entries;
 use crate::reached::{Check, Reached};
 use crate::ruling::{Ruling, Verdict, Wrong};
-use balancer_core::Book;
 use jk_io::{Bytes, NoMemory};
-use jk_model::{Entry, EntryList, Opening, Segment};
 use journal_text::Counted;
+use lb_book::Book;
+use lb_model::{Entry, EntryList, Opening, Segment};
 use std::alloc::Global;
 
 // The verdict on a line at this place after `lines` others, from 0.

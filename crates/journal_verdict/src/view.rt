@@ -1,5 +1,5 @@
 use jk_io::Bytes;
-use jk_model::{Method, View};
+use lb_model::{Method, View};
 
 /// A balancer as its journal shows it.
 #[derive(Drop)]

@@ -4,10 +4,10 @@ use Rattle.std.proofs.Math.Nat.{div-one}
 use Rattle.std.proofs.lemmas.Bool.{true≢false}
 use Rattle.std.proofs.lemmas.List.{get_or-map, length-map, map-set}
 use Rattle.std.proofs.lemmas.List.Elements.{All-cons, All-head, All-nil, All-replicate, All-set, All-tail}
-use Rattle.jk_model.specs.Choice.{begin_after, place_from}
-use Rattle.jk_model.specs.Free.{is_in}
-use Rattle.jk_model.specs.Loads.{halved}
-use Rattle.jk_model.proofs.TicketLaws.{halved-twice}
+use Rattle.lb_model.specs.Choice.{begin_after, place_from}
+use Rattle.lb_model.specs.Free.{is_in}
+use Rattle.lb_model.specs.Loads.{halved}
+use Rattle.lb_model.proofs.TicketLaws.{halved-twice}
 use Rattle.lb_rules.specs.Kept.{AreStamped, settled, weight_now, weights_now}
 use Rattle.lb_rules.specs.Weights.{IsLeastOfSet, IsLightest, is_lighter, lightens, no_weights, weight_halved, weights_halved}
 use Rattle.lb_rules.specs.declared.weight.Weight.{Weight}

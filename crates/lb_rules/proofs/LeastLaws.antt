@@ -3,11 +3,11 @@ use Rattle.std.proofs.Common.{◌≡◌, ℕ, ◌+◌, ◌<◌, Bool, true, fals
 use Rattle.std.proofs.lemmas.Bool.{true≢false}
 use Rattle.std.proofs.lemmas.List.{get_or_default}
 use Rattle.std.proofs.lemmas.Bool.Decides.{nat_tests}
-use Rattle.jk_model.specs.declared.ask.Ask.{Ask}
+use Rattle.lb_model.specs.declared.ask.Ask.{Ask}
 use Rattle.lb_rules.specs.declared.standing.Standing.{Standing}
 use Rattle.lb_rules.specs.declared.among.Among.{Among}
 use Rattle.lb_rules.specs.Standings.{passes}
-use Rattle.jk_model.specs.Choice.{is_before_by, place_from}
+use Rattle.lb_model.specs.Choice.{is_before_by, place_from}
 use Rattle.lb_rules.specs.Least.{row_before, improves, IsLeastRow, IsLeastOf}
 
 -- what goes before a new best goes before the old one

@@ -3,13 +3,13 @@ use Rattle.std.proofs.Common.{◌≡◌, ℕ, zero, suc, ◌<◌, Bool, true, fa
 use Rattle.std.specs.Prelude.{◌==◌}
 use Rattle.std.proofs.lemmas.Bool.{or_right, or_left, cases_Bool, cases_eq, eq-eqb, ne_eqb, and_left, and_right}
 use Rattle.std.proofs.lemmas.List.{get_or_default}
-use Rattle.jk_model.specs.Journal.{any_of, chosen_in}
-use Rattle.jk_model.specs.States.{is_balanced}
-use Rattle.jk_model.specs.Choice.{begin_after, begins_trial, redirected, routed}
-use Rattle.jk_model.specs.declared.ask.Ask.{Ask}
-use Rattle.jk_model.specs.declared.config.LbConfig.{LbConfig}
-use Rattle.jk_model.specs.declared.journal.Answer.{Answer}
-use Rattle.jk_model.specs.declared.journal.How.{How}
+use Rattle.lb_model.specs.Journal.{any_of, chosen_in}
+use Rattle.lb_model.specs.States.{is_balanced}
+use Rattle.lb_model.specs.Choice.{begin_after, begins_trial, redirected, routed}
+use Rattle.lb_model.specs.declared.ask.Ask.{Ask}
+use Rattle.lb_model.specs.declared.config.LbConfig.{LbConfig}
+use Rattle.lb_model.specs.declared.journal.Answer.{Answer}
+use Rattle.lb_model.specs.declared.journal.How.{How}
 use Rattle.lb_rules.specs.declared.standing.Standing.{Standing}
 use Rattle.lb_rules.specs.declared.among.Among.{Among}
 use Rattle.lb_rules.specs.Least.{IsLeastRow, HasNoRow, IsRevivalOf}

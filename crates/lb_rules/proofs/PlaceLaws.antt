@@ -3,12 +3,12 @@ use Rattle.std.proofs.Common.{◌≡◌, ◌<◌, ℕ, Bool, true, not, ◌&&◌
 use Rattle.std.specs.Prelude.{nat_lt, slice_index_or}
 use Rattle.std.proofs.lemmas.Bool.{and_parts, cases_Bool, ltb-true}
 use Rattle.std.proofs.lemmas.List.{get_or_default}
-use Rattle.jk_model.specs.Free.{is_in, is_ready, is_error, is_active, is_stopped}
-use Rattle.jk_model.specs.Choice.{member_within}
-use Rattle.jk_model.specs.declared.ask.Ask.{Ask}
-use Rattle.jk_model.specs.declared.config.LbConfig.{LbConfig}
-use Rattle.jk_model.specs.declared.journal.Answer.{Answer}
-use Rattle.jk_model.specs.declared.journal.How.{How}
+use Rattle.lb_model.specs.Free.{is_in, is_ready, is_error, is_active, is_stopped}
+use Rattle.lb_model.specs.Choice.{member_within}
+use Rattle.lb_model.specs.declared.ask.Ask.{Ask}
+use Rattle.lb_model.specs.declared.config.LbConfig.{LbConfig}
+use Rattle.lb_model.specs.declared.journal.Answer.{Answer}
+use Rattle.lb_model.specs.declared.journal.How.{How}
 use Rattle.lb_rules.specs.declared.standing.Standing.{Standing}
 use Rattle.lb_rules.specs.declared.among.Among.{Among}
 use Rattle.lb_rules.specs.Least.{IsLeastRow}

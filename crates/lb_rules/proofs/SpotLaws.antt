@@ -6,17 +6,17 @@ use Rattle.std.proofs.lemmas.Bool.{cases_Bool, cases_eq, cases_lt, eqb-true, eq-
 use Rattle.std.proofs.lemmas.List.{get_or-reverse, length-reverse, reverse-append, reverse-reverse}
 use Rattle.std.proofs.lemmas.Option.{slice_get_past}
 use Rattle.std.proofs.lemmas.Map.Views.{any-filter_same}
-use Rattle.jk_model.specs.Journal.{members, next_of, chosen_in}
-use Rattle.jk_model.specs.Tickets.{Ticket, gives_back, is_returned, made, is_out, is_on}
-use Rattle.jk_model.specs.Validity.{AreTickets, IsOpening}
-use Rattle.jk_model.specs.Legal.{IsLegalPast, IsLegal, IsAnswered}
-use Rattle.jk_model.proofs.ListFacts.{list_any-reverse}
-use Rattle.jk_model.proofs.TicketFacts.{ticket_below}
-use Rattle.jk_model.proofs.OutFacts.{legal_opening, out_not_returned, on_some}
-use Rattle.jk_model.specs.declared.journal.Answer.{Answer}
-use Rattle.jk_model.specs.declared.journal.Call.{Call}
-use Rattle.jk_model.specs.declared.journal.Entry.{Entry}
-use Rattle.jk_model.specs.declared.opening.Opening.{Opening}
+use Rattle.lb_model.specs.Journal.{members, next_of, chosen_in}
+use Rattle.lb_model.specs.Tickets.{Ticket, gives_back, is_returned, made, is_out, is_on}
+use Rattle.lb_model.specs.Validity.{AreTickets, IsOpening}
+use Rattle.lb_model.specs.Legal.{IsLegalPast, IsLegal, IsAnswered}
+use Rattle.lb_model.proofs.ListFacts.{list_any-reverse}
+use Rattle.lb_model.proofs.TicketFacts.{ticket_below}
+use Rattle.lb_model.proofs.OutFacts.{legal_opening, out_not_returned, on_some}
+use Rattle.lb_model.specs.declared.journal.Answer.{Answer}
+use Rattle.lb_model.specs.declared.journal.Call.{Call}
+use Rattle.lb_model.specs.declared.journal.Entry.{Entry}
+use Rattle.lb_model.specs.declared.opening.Opening.{Opening}
 use Rattle.lb_rules.specs.declared.tickets.Spot.{Spot}
 use Rattle.lb_rules.specs.Spots.{chosen_at, AreRising, IsSpot, IsNoSpot}
 

@@ -5,11 +5,11 @@ use Rattle.std.specs.List.{list_any}
 use Rattle.std.proofs.lemmas.Bool.{cases_lt, or_right, or_left, or_cases, and_parts}
 use Rattle.std.proofs.lemmas.List.{length-reverse}
 use Rattle.std.proofs.lemmas.Option.{slice_get_past, slice_get_within}
-use Rattle.jk_model.specs.Journal.{chosen_in}
-use Rattle.jk_model.specs.Tickets.{gives_back, is_returned, is_out}
-use Rattle.jk_model.specs.Legal.{IsLegal}
-use Rattle.jk_model.specs.declared.journal.Entry.{Entry}
-use Rattle.jk_model.specs.declared.opening.Opening.{Opening}
+use Rattle.lb_model.specs.Journal.{chosen_in}
+use Rattle.lb_model.specs.Tickets.{gives_back, is_returned, is_out}
+use Rattle.lb_model.specs.Legal.{IsLegal}
+use Rattle.lb_model.specs.declared.journal.Entry.{Entry}
+use Rattle.lb_model.specs.declared.opening.Opening.{Opening}
 use Rattle.lb_rules.specs.declared.tickets.Spot.{Spot}
 use Rattle.lb_rules.specs.Returns.{AreReturns, IsReturnedAt}
 use Rattle.lb_rules.specs.Spots.{chosen_at, IsSpot, IsPlaced, returned_in}

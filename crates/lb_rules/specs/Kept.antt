@@ -1,6 +1,6 @@
 -- Weights as they are kept: a load stays as it was put, and is halved when it is looked at.
 use Rattle.std.specs.Prelude.{ℕ, ◌-◌, ◌≤◌, List, All, map}
-use Rattle.jk_model.specs.Loads.{halved}
+use Rattle.lb_model.specs.Loads.{halved}
 use Rattle.lb_rules.specs.declared.weight.Weight.{Weight}
 use Rattle.lb_rules.specs.declared.weight.KeptWeight.{KeptWeight}
 

@@ -1,10 +1,10 @@
 -- The least of the rows that pass.
 use Rattle.std.specs.Prelude.{◌≡◌, ℕ, ◌<◌, Bool, true, false, List, length, Option, None, Some, slice_index_or}
-use Rattle.jk_model.specs.declared.ask.Ask.{Ask}
+use Rattle.lb_model.specs.declared.ask.Ask.{Ask}
 use Rattle.lb_rules.specs.declared.standing.Standing.{Standing}
 use Rattle.lb_rules.specs.declared.among.Among.{Among}
 use Rattle.lb_rules.specs.Standings.{passes}
-use Rattle.jk_model.specs.Choice.{is_before_by, place_from}
+use Rattle.lb_model.specs.Choice.{is_before_by, place_from}
 
 -- row a, at place i of n, goes before row b, at place j
 abbrev pub row_before : (n begin : ℕ) (i : ℕ) (a : Standing) (j : ℕ) (b : Standing) → Bool

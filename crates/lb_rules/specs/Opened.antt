@@ -1,7 +1,7 @@
 -- The row of a member at an opening.
 use Rattle.std.specs.Prelude.{ℕ}
-use Rattle.jk_model.specs.declared.member.MemberConfig.{MemberConfig}
-use Rattle.jk_model.specs.declared.view.MemberRow.{MemberRow}
+use Rattle.lb_model.specs.declared.member.MemberConfig.{MemberConfig}
+use Rattle.lb_model.specs.declared.view.MemberRow.{MemberRow}
 use Rattle.lb_rules.specs.declared.standing.Standing.{Standing}
 
 -- What the opening shows of the member, with its pool, and what one request weighs on it.

@@ -1,11 +1,11 @@
 -- The choice over the rows: which member an ask gets. Row m is that of member m, and d stands where there is no row.
 use Rattle.std.specs.Prelude.{ℕ, ◌<◌, ◌==◌, ◌&&◌, Bool, not, List, length, Option, None, slice_index_or, if◌then◌else◌}
-use Rattle.jk_model.specs.States.{is_balanced}
-use Rattle.jk_model.specs.Choice.{IsChosenIn, IsLeastIn, IsOpenIn, IsPickIn, Seen, any_usable_in, begin_after, is_candidate_in, is_forced_in, member_within, routed_in}
-use Rattle.jk_model.specs.declared.ask.Ask.{Ask}
-use Rattle.jk_model.specs.declared.config.LbConfig.{LbConfig}
-use Rattle.jk_model.specs.declared.journal.Answer.{Answer}
-use Rattle.jk_model.specs.declared.journal.How.{How}
+use Rattle.lb_model.specs.States.{is_balanced}
+use Rattle.lb_model.specs.Choice.{IsChosenIn, IsLeastIn, IsOpenIn, IsPickIn, Seen, any_usable_in, begin_after, is_candidate_in, is_forced_in, member_within, routed_in}
+use Rattle.lb_model.specs.declared.ask.Ask.{Ask}
+use Rattle.lb_model.specs.declared.config.LbConfig.{LbConfig}
+use Rattle.lb_model.specs.declared.journal.Answer.{Answer}
+use Rattle.lb_model.specs.declared.journal.How.{How}
 use Rattle.lb_rules.specs.declared.standing.Standing.{Standing}
 use Rattle.lb_rules.specs.declared.among.Among.{Among}
 use Rattle.lb_rules.specs.Standings.{passes, serves_row}

@@ -1,9 +1,9 @@
 -- Where each ticket came back.
 use Rattle.std.specs.Prelude.{◌≡◌, ℕ, ◌+◌, ◌<◌, ◌==◌, ◌&&◌, false, true, List, length, Option, Some, None, slice_get, slice_index_or}
 use Rattle.std.specs.List.{list_any}
-use Rattle.jk_model.specs.Tickets.{gives_back, is_returned}
-use Rattle.jk_model.specs.declared.journal.Entry.{Entry}
-use Rattle.jk_model.specs.declared.opening.Opening.{Opening}
+use Rattle.lb_model.specs.Tickets.{gives_back, is_returned}
+use Rattle.lb_model.specs.declared.journal.Entry.{Entry}
+use Rattle.lb_model.specs.declared.opening.Opening.{Opening}
 
 -- The number of the kept entry that returned the ticket, if there is one.
 abbrev pub IsReturnedAt : List Entry → (ticket : ℕ) → Option ℕ → Type 0

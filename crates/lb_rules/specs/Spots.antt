@@ -1,8 +1,8 @@
 -- Where a ticket was made.
 use Rattle.std.specs.Prelude.{◌≡◌, ℕ, ◌+◌, ◌-◌, ◌<◌, ◌≤◌, List, length, Option, Some, None, slice_get, slice_index_or, slice_set, option_and_then}
-use Rattle.jk_model.specs.Journal.{chosen_in}
-use Rattle.jk_model.specs.declared.journal.Entry.{Entry}
-use Rattle.jk_model.specs.declared.opening.Opening.{Opening}
+use Rattle.lb_model.specs.Journal.{chosen_in}
+use Rattle.lb_model.specs.declared.journal.Entry.{Entry}
+use Rattle.lb_model.specs.declared.opening.Opening.{Opening}
 use Rattle.lb_rules.specs.declared.tickets.Spot.{Spot}
 
 -- The member that the entry at a place chose.

@@ -1,8 +1,8 @@
 -- The tests of a member, on its row.
 use Rattle.std.specs.Prelude.{ℕ, Bool}
-use Rattle.jk_model.specs.Free.{is_in, counts_as, is_usable_by, serves_by, is_revivable_by}
-use Rattle.jk_model.specs.declared.ask.Ask.{Ask}
-use Rattle.jk_model.specs.declared.member.Activation.{Activation}
+use Rattle.lb_model.specs.Free.{is_in, counts_as, is_usable_by, serves_by, is_revivable_by}
+use Rattle.lb_model.specs.declared.ask.Ask.{Ask}
+use Rattle.lb_model.specs.declared.member.Activation.{Activation}
 use Rattle.lb_rules.specs.declared.standing.Standing.{Standing}
 use Rattle.lb_rules.specs.declared.among.Among.{Among}
 

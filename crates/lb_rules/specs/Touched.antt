@@ -1,8 +1,8 @@
 -- The row of the table of states that an event takes.
 use Rattle.std.specs.Prelude.{Bool}
-use Rattle.jk_model.specs.declared.state.MemberState.{MemberState}
-use Rattle.jk_model.specs.declared.state.MemberState.TheVariants as State
-use Rattle.jk_model.specs.StateRows.{chosen_state, returned_state, maintained_state, recovered_state}
+use Rattle.lb_model.specs.declared.state.MemberState.{MemberState}
+use Rattle.lb_model.specs.declared.state.MemberState.TheVariants as State
+use Rattle.lb_model.specs.StateRows.{chosen_state, returned_state, maintained_state, recovered_state}
 use Rattle.lb_rules.specs.declared.touch.Touch.{Touch}
 
 abbrev pub touched_state : Bool → Touch → MemberState → MemberState

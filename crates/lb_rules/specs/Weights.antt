@@ -1,8 +1,8 @@
 -- The members by their weights: which of a set of members is the least, and what halvings make of the weights.
 use Rattle.std.specs.Prelude.{◌≡◌, ℕ, ◌<◌, Bool, true, false, List, length, map, replicate, Option, None, Some, slice_index_or}
-use Rattle.jk_model.specs.Choice.{IsFirstOf, begin_after, is_before_by, place_from}
-use Rattle.jk_model.specs.Free.{is_in}
-use Rattle.jk_model.specs.Loads.{halved}
+use Rattle.lb_model.specs.Choice.{IsFirstOf, begin_after, is_before_by, place_from}
+use Rattle.lb_model.specs.Free.{is_in}
+use Rattle.lb_model.specs.Loads.{halved}
 use Rattle.lb_rules.specs.declared.weight.Weight.{Weight}
 
 -- n members that are all equally near and have no load.

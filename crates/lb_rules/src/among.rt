@@ -1,12 +1,12 @@
 //! The tests of a member, on its row.
 
 ghost use Rattle.std.specs.Prelude.{◌≡◌, ◌<◌};
-ghost use Rattle.jk_model.specs.Free.{is_in, is_ready, is_error, has_room};
+ghost use Rattle.lb_model.specs.Free.{is_in, is_ready, is_error, has_room};
 ghost use Rattle.lb_rules.specs.Standings.{counted_row, passes, serves_row};
-ghost use Rattle.jk_model.specs.declared.config.TheConstants.{MAX_MEMBERS};
+ghost use Rattle.lb_model.specs.declared.config.TheConstants.{MAX_MEMBERS};
 
 use crate::standing::Standing;
-use jk_model::{Activation, Ask, MemberState};
+use lb_model::{Activation, Ask, MemberState};
 
 /// Among which members the least one is taken.
 #[derive(Clone, Copy, PartialEq, Eq)]

@@ -2,19 +2,19 @@
 
 ghost use Rattle.std.specs.Prelude.{◌≡◌, ℕ, ◌<◌, ◌≤◌, length, IfSome, slice_index_or, is_some, ◌&&◌};
 ghost use Rattle.std.specs.Option.{ForSome};
-ghost use Rattle.jk_model.specs.Choice.{begin_after, begins_trial, member_within, redirected};
-ghost use Rattle.jk_model.specs.declared.config.LbConfig.{LbConfig};
+ghost use Rattle.lb_model.specs.Choice.{begin_after, begins_trial, member_within, redirected};
+ghost use Rattle.lb_model.specs.declared.config.LbConfig.{LbConfig};
 ghost use Rattle.lb_rules.specs.declared.standing.Standing.{Standing};
 ghost use Rattle.lb_rules.specs.RuleNumbers.{rules_number};
 ghost use Rattle.lb_rules.specs.Picks.{home_of, serves_at, routed_at, revives_at, HasRoomAt, HasRoomFor, IsOpenAt, IsPickAt};
 ghost use Rattle.lb_rules.specs.Least.{IsRevivalOf};
-ghost use Rattle.jk_model.specs.declared.config.TheConstants.{MAX_MEMBERS};
+ghost use Rattle.lb_model.specs.declared.config.TheConstants.{MAX_MEMBERS};
 
 use crate::among::{Among, serves};
 use crate::least::least;
 use crate::rules::Rules;
 use crate::standing::Standing;
-use jk_model::{Answer, Ask, How, LbConfig, MemberState};
+use lb_model::{Answer, Ask, How, LbConfig, MemberState};
 
 /// The answer to an ask, and whether it turns the members that may be revived from Error to Recover.
 #[derive(Clone, Copy, PartialEq, Eq)]

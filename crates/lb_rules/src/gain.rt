@@ -1,7 +1,7 @@
 ghost use Rattle.std.specs.Prelude.{◌≡◌, ◌*◌};
-ghost use Rattle.jk_model.specs.Loads.{units_chosen, units_returned};
+ghost use Rattle.lb_model.specs.Loads.{units_chosen, units_returned};
 
-use jk_model::Method;
+use lb_model::Method;
 
 /// What a choice adds to the chosen member's load. `fresh`: the session is a new one.
 pub fn gain_select(method: Method, unit: u32, fresh: bool) -> u128

@@ -2,7 +2,7 @@
 
 ghost use Rattle.std.specs.Prelude.{◌≡◌, ◌+◌, ◌<◌, ◌≤◌, length};
 ghost use Rattle.std.specs.Option.{ForSome};
-ghost use Rattle.jk_model.specs.declared.config.TheConstants.{MAX_MEMBERS};
+ghost use Rattle.lb_model.specs.declared.config.TheConstants.{MAX_MEMBERS};
 ghost use Rattle.lb_rules.specs.Kept.{weights_now};
 ghost use Rattle.lb_rules.specs.Weights.{IsLightest, lightens};
 ghost use Rattle.lb_rules.specs.declared.weight.Weight.{Weight};
@@ -81,7 +81,7 @@ impl Model for Index {
     ghost use Rattle.std.specs.Prelude.{List, length, ◌≤◌};
     ghost use Rattle.lb_rules.specs.Kept.{AreStamped, weights_now};
     ghost use Rattle.lb_rules.specs.declared.weight.Weight.{Weight};
-    ghost use Rattle.jk_model.specs.declared.config.TheConstants.{MAX_MEMBERS};
+    ghost use Rattle.lb_model.specs.declared.config.TheConstants.{MAX_MEMBERS};
 
     ghost Value = { List Weight };
 
@@ -94,7 +94,7 @@ impl Index {
     ghost use Rattle.std.specs.Prelude.{◌≡◌, ◌<◌, ◌≤◌, length, slice_set, IfOk};
     ghost use Rattle.lb_rules.specs.Weights.{IsLeastOfSet, no_weights, weights_halved};
     ghost use Rattle.lb_rules.specs.declared.weight.Weight.{Weight};
-    ghost use Rattle.jk_model.specs.declared.config.TheConstants.{MAX_MEMBERS};
+    ghost use Rattle.lb_model.specs.declared.config.TheConstants.{MAX_MEMBERS};
 
     /// Members that are all equally near and have no load.
     #[tactic(auto, using(crate::proofs::IndexLaws::none_now, crate::proofs::IndexLaws::none_stamped))]

@@ -2,14 +2,14 @@
 
 ghost use Rattle.std.specs.Prelude.{◌≡◌, ◌+◌, ◌<◌, ◌≤◌, length};
 ghost use Rattle.std.specs.Option.{ForSome};
-ghost use Rattle.jk_model.specs.Choice.{is_before_by, place_from};
+ghost use Rattle.lb_model.specs.Choice.{is_before_by, place_from};
 ghost use Rattle.lb_rules.specs.Least.{IsLeastOf, improves};
 ghost use Rattle.lb_rules.specs.declared.standing.Standing.{Standing};
-ghost use Rattle.jk_model.specs.declared.config.TheConstants.{MAX_MEMBERS};
+ghost use Rattle.lb_model.specs.declared.config.TheConstants.{MAX_MEMBERS};
 
 use crate::among::{Among, passes};
 use crate::standing::Standing;
-use jk_model::Ask;
+use lb_model::Ask;
 
 // A member's place in the cyclic order that begins with `begin`.
 pub(crate) fn place_from(count: usize, begin: usize, member: usize) -> usize

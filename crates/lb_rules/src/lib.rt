@@ -1,7 +1,7 @@
 //! The rules of a load balancer: who gets an ask, what an event makes of a member's state and load, which tickets are out.
 //!
 //! Source: Tomcat Connectors reference, LoadBalancer HowTo ("failover", "recover_time") and workers.properties ("method",
-//! "lbfactor", "worker.maintain"); the words are those of jk_model's definitions.
+//! "lbfactor", "worker.maintain"); the words are those of lb_model's definitions.
 //! Own rules (docs/DECISIONS.md): the trial of a recovered member, revival, who comes first of equal ones, and that a client
 //! that left undoes its own trial alone; units are the factors' least common multiple divided by the member's factor, so loads
 //! are whole; a maintenance that comes late halves once for each interval; a ticket is the number of the entry that made it.
@@ -13,7 +13,7 @@
 //! specs/Weights.antt for a choice, specs/Touched.antt for a state, specs/Spots.antt for tickets.
 //! A Book's choice is one pass over its rows. `Index` answers which of a set of members is the least over weights alone,
 //! and halves all of them by changing one number; docs/DECISIONS.md says what it gains, and why the Book doesn't keep one.
-//! Errors: `Stray` of jk_model. No memory is taken.
+//! Errors: `Stray` of lb_model. No memory is taken.
 #![tactic(auto)]
 
 mod among;

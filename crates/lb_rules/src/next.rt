@@ -1,9 +1,9 @@
 ghost use Rattle.std.specs.Prelude.{◌≡◌};
-ghost use Rattle.jk_model.specs.StateRows.{left_state, returned_state, maintained_state};
+ghost use Rattle.lb_model.specs.StateRows.{left_state, returned_state, maintained_state};
 ghost use Rattle.lb_rules.specs.Touched.{touched_state};
 
 use crate::touch::Touch;
-use jk_model::{Kind, MemberState};
+use lb_model::{Kind, MemberState};
 
 /// A member's state after `touch`. `direct`: its balancer stands for one worker mounted without one, which is
 /// never put into Error.

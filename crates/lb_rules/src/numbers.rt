@@ -1,10 +1,10 @@
 //! The numbers of a journal's entries.
 
 ghost use Rattle.std.specs.Prelude.{◌≡◌, ◌+◌, ◌≤◌, length, reverse};
-ghost use Rattle.jk_model.specs.Journal.{next_of};
-ghost use Rattle.jk_model.specs.declared.validity.TheConstants.{MOST_NUMBERS};
+ghost use Rattle.lb_model.specs.Journal.{next_of};
+ghost use Rattle.lb_model.specs.declared.validity.TheConstants.{MOST_NUMBERS};
 
-use jk_model::{Entry, Opening};
+use lb_model::{Entry, Opening};
 
 /// The number of the entry that comes after these, which are all since the opening.
 pub fn next_after(opening: &Opening, entries: &[Entry]) -> u64

@@ -1,7 +1,7 @@
 //! The two versions of the rules.
 
 ghost use Rattle.std.specs.Prelude.{◌≡◌, ◌<◌};
-ghost use Rattle.jk_model.specs.Segments.{AreRules};
+ghost use Rattle.lb_model.specs.Segments.{AreRules};
 ghost use Rattle.lb_rules.specs.RuleNumbers.{rules_number};
 
 /// By which rules a member is chosen. Those of version 1 revive nobody, and are there for old texts.

@@ -3,7 +3,7 @@
 ghost use Rattle.std.specs.Prelude.{◌≡◌};
 ghost use Rattle.lb_rules.specs.Opened.{opening_row};
 
-use jk_model::{Activation, MemberConfig, MemberRow, MemberState};
+use lb_model::{Activation, MemberConfig, MemberRow, MemberState};
 
 /// A member as the journal leaves it.
 #[derive(Clone, Copy, PartialEq, Eq)]

@@ -2,12 +2,12 @@
 //! opening, whose tickets rise.
 
 ghost use Rattle.std.specs.Prelude.{◌≡◌, ℕ, ◌+◌, ◌-◌, ◌<◌, ◌≤◌, List, length, reverse, true, false, IfSome, IfNone, IfOk, IfErr, OnOk, OnErr, slice_index_or, vec_capacity};
-ghost use Rattle.jk_model.specs.Legal.{IsLegal};
-ghost use Rattle.jk_model.specs.Tickets.{is_out};
+ghost use Rattle.lb_model.specs.Legal.{IsLegal};
+ghost use Rattle.lb_model.specs.Tickets.{is_out};
 ghost use Rattle.lb_rules.specs.Returns.{AreReturns, IsReturnedAt};
 ghost use Rattle.lb_rules.specs.Spots.{chosen_at, AreRising, IsSpot, IsNoSpot, IsPlaced, returned_in, kept_noted, early_noted};
 
-use jk_model::{Answer, Entry, Opening, Stray};
+use lb_model::{Answer, Entry, Opening, Stray};
 
 /// Where a ticket was made.
 #[derive(Clone, Copy)]

@@ -1,4 +1,4 @@
-use jk_model::Kind;
+use lb_model::Kind;
 
 /// What happens to a member. Moments and times are in seconds.
 #[derive(Clone, Copy, PartialEq, Eq)]

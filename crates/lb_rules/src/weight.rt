@@ -1,11 +1,11 @@
 //! What a member weighs in a choice, and its weight as it is kept: the loads are halved only when they are looked at.
 
 ghost use Rattle.std.specs.Prelude.{◌≡◌, ◌≤◌, ◌<◌, length, map, slice_index_or};
-ghost use Rattle.jk_model.specs.Choice.{is_before_by};
+ghost use Rattle.lb_model.specs.Choice.{is_before_by};
 ghost use Rattle.lb_rules.specs.Kept.{AreStamped, weight_now, weights_now, settled};
 ghost use Rattle.lb_rules.specs.Weights.{weights_halved};
 
-use jk_model::halve;
+use lb_model::halve;
 
 /// What a member weighs in a choice: the nearer goes first, of equally near ones the less loaded.
 #[derive(Clone, Copy, PartialEq, Eq)]

@@ -4,7 +4,7 @@ use crate::served::put_rows;
 use check_rows::rows::{bytes_of, number, numbers_of};
 use check_rows::telling::{put_bytes, put_count, put_shown, put_word};
 use jk_io::{Bytes, ListOf, MemLink, NoMemory, Peer};
-use jk_model::ServedList;
+use lb_model::ServedList;
 use request_log::{Format, FormatError, LogRows, Times, log_text, read_format, write_log};
 use std::alloc::Global;
 

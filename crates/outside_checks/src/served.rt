@@ -2,7 +2,7 @@
 
 use check_rows::rows::{bytes_of, number};
 use jk_io::{Bytes, NoMemory};
-use jk_model::{Asked, RowSink, Served};
+use lb_model::{Asked, RowSink, Served};
 use std::alloc::Global;
 
 fn worker_of(alloc: Global, name: &str) -> Result<Option<Bytes>, NoMemory> {

@@ -4,12 +4,12 @@ use mathlib.Core.Option.{some}
 use lib.ListN.{get_elem?}
 use Rattle.atomic_table.specs.Seated.{TableId}
 use Rattle.atomic_table.proofs.Lists.{at_last, at_longer}
-use Rattle.pass_desk.specs.declared.pass_view.Origin.{Origin}
-use Rattle.pass_desk.specs.Closing.{AreAllPasses}
-use Rattle.pass_desk.specs.Passes.{AreNewPasses, IsNewPass}
-use Rattle.pass_desk.specs.Placed.{AreBack, IsBack, origin_in, table_in_passes}
-use Rattle.pass_desk.specs.declared.pass.Pass.{Pass}
-use Rattle.pass_desk.proofs.PlacedLaws.{all_back, new_back, new_origin, new_table}
+use Rattle.lb_passes.specs.declared.pass_view.Origin.{Origin}
+use Rattle.lb_passes.specs.Closing.{AreAllPasses}
+use Rattle.lb_passes.specs.Passes.{AreNewPasses, IsNewPass}
+use Rattle.lb_passes.specs.Placed.{AreBack, IsBack, origin_in, table_in_passes}
+use Rattle.lb_passes.specs.declared.pass.Pass.{Pass}
+use Rattle.lb_passes.proofs.PlacedLaws.{all_back, new_back, new_origin, new_table}
 
 -- The pass of a place has its number.
 new_at : (o : Origin) (table : TableId) (given k n : ℕ) (passes : List Pass) (p : Pass) → AreNewPasses o table 2 passes → given ≡ 2 → k ≡ n

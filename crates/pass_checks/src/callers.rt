@@ -1,12 +1,12 @@
 //! Two callers of one Book: the first chooses and tells the second by a note, the second chooses, and both give back.
 ghost use Rattle.std.specs.Prelude.{◌≡◌, [], ◌∷◌, Some};
-ghost use Rattle.balancer_core.specs.Desks.{pair_of};
-ghost use Rattle.balancer_core.specs.PlainLeases.{note_of};
+ghost use Rattle.lb_book.specs.Desks.{pair_of};
+ghost use Rattle.lb_book.specs.PlainLeases.{note_of};
 
-use balancer_core::desk::Choice;
-use balancer_core::{Desk, PlainLease};
-use jk_model::{Ask, Kind, Outcome, View};
-use pass_desk::{PassPlace, PlacedDesk};
+use lb_book::desk::Choice;
+use lb_book::{Desk, PlainLease};
+use lb_model::{Ask, Kind, Outcome, View};
+use lb_passes::{PassPlace, PlacedDesk};
 use std::sync::Wait;
 
 /// What a fresh session asks.

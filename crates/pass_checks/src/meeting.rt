@@ -1,19 +1,19 @@
 //! Two callers side by side: the first gives its ticket back only once the second has had a whole exchange. Were all done by
 //! one thread, the first would wait in vain.
 ghost use Rattle.std.specs.Prelude.{◌≡◌, ◌∷◌, [], Some};
-ghost use Rattle.pass_desk.specs.PassDesks.{table_in};
-ghost use Rattle.pass_desk.specs.Passes.{AreNewPasses};
-ghost use Rattle.pass_desk.specs.Placed.{IsBack};
-ghost use Rattle.pass_desk.specs.declared.pass_book.PassBook.{PassBook};
+ghost use Rattle.lb_passes.specs.PassDesks.{table_in};
+ghost use Rattle.lb_passes.specs.Passes.{AreNewPasses};
+ghost use Rattle.lb_passes.specs.Placed.{IsBack};
+ghost use Rattle.lb_passes.specs.declared.pass_book.PassBook.{PassBook};
 
 use crate::callers::{FRESH, give};
 use crate::start::start_book;
 use anyhow::Result as Judged;
-use balancer_core::Desk;
-use balancer_core::desk::Choice;
 use check_rows::files::print_claim;
 use jk_io::{Gate, NoMemory};
-use pass_desk::{Pass, PassBook, PassList, PassPlace, PlacedDesk};
+use lb_book::Desk;
+use lb_book::desk::Choice;
+use lb_passes::{Pass, PassBook, PassList, PassPlace, PlacedDesk};
 use std::alloc::Global;
 use std::marker::Brand;
 use std::slice::from_ref;

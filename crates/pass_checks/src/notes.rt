@@ -1,17 +1,17 @@
 //! The row of two callers, and what is told of it.
 ghost use Rattle.std.specs.Prelude.{◌≡◌, ◌∷◌, [], ℕ, IfOk};
-ghost use Rattle.pass_desk.specs.PassDesks.{table_in};
-ghost use Rattle.pass_desk.specs.Passes.{AreNewPasses};
-ghost use Rattle.pass_desk.specs.Placed.{AreBack, IsBack};
-ghost use Rattle.pass_desk.specs.declared.pass_book.PassBook.{PassBook};
+ghost use Rattle.lb_passes.specs.PassDesks.{table_in};
+ghost use Rattle.lb_passes.specs.Passes.{AreNewPasses};
+ghost use Rattle.lb_passes.specs.Placed.{AreBack, IsBack};
+ghost use Rattle.lb_passes.specs.declared.pass_book.PassBook.{PassBook};
 
 use crate::callers::{Met, meet_by_note};
 use crate::start::start_book;
 use anyhow::Result as Judged;
 use check_rows::files::{print_count, read_rows};
 use jk_io::{Bytes, NoMemory, put_decimal};
-use jk_model::MemberRow;
-use pass_desk::{Pass, PassBook, PassList, PassPlace, PlacedDesk, close_passes};
+use lb_model::MemberRow;
+use lb_passes::{Pass, PassBook, PassList, PassPlace, PlacedDesk, close_passes};
 use std::alloc::Global;
 use std::marker::Brand;
 use std::rt::Files;

@@ -5,17 +5,16 @@
 ghost use Rattle.std.specs.Prelude.{◌≡◌, ◌<◌, ◌∷◌, [], false, true, IfOk, IfSome, Some};
 ghost use Rattle.conn_pool.specs.Idle.{counts};
 ghost use Rattle.exchange.specs.Requests.{sizes_of};
-ghost use Rattle.jk_model.specs.Journal.{members};
+ghost use Rattle.lb_model.specs.Journal.{members};
 ghost use Rattle.pass_checks.specs.Starts.{IsFresh};
-ghost use Rattle.pass_desk.specs.PassDesks.{table_in};
-ghost use Rattle.pass_desk.specs.Passes.{AreNewPasses};
-ghost use Rattle.pass_desk.specs.Placed.{AreBack, IsBack};
-ghost use Rattle.pass_desk.specs.declared.pass_book.PassBook.{PassBook};
+ghost use Rattle.lb_passes.specs.PassDesks.{table_in};
+ghost use Rattle.lb_passes.specs.Passes.{AreNewPasses};
+ghost use Rattle.lb_passes.specs.Placed.{AreBack, IsBack};
+ghost use Rattle.lb_passes.specs.declared.pass_book.PassBook.{PassBook};
 ghost use Rattle.status_worker.specs.Desks.{KeepsTickets};
-ghost use Rattle.uri_map.specs.Sites.{stands_in};
+ghost use Rattle.site_mounts.specs.Sites.{stands_in};
 
 use crate::notes::{put_busy, put_number};
-use balancer_core::{Book, Desk};
 use client_session::{SessionSite, Surroundings, serve_session};
 use conn_pool::{Idle, NoTape, PooledReach, Pools};
 use http_front::Inbox;
@@ -23,18 +22,19 @@ use jk_io::{
     Bytes, Dial, Gate, GateLink, IoError, Link, MAX_INPUT_BYTES, MemLink, NoMemory, NumberList,
     Peer, Reach, SizeList, SizeTable, StepClock, Turn,
 };
-use jk_model::NoRows;
 use journal_text::{TextError, write_segment};
 use journal_verdict::{check_journal, put_verdict};
-use pass_desk::{Pass, PassBook, PassList, PassPlace, PlacedDesk, close_passes};
+use lb_book::{Book, Desk};
+use lb_model::NoRows;
+use lb_passes::{Pass, PassBook, PassList, PassPlace, PlacedDesk, close_passes};
 use site_config::Config;
+use site_mounts::UriMap;
 use std::alloc::Global;
 use std::marker::Brand;
 use std::slice::from_ref;
 use std::sync::Wait;
 use std::thread::{self, Threads};
 use std::time::Clock;
-use uri_map::UriMap;
 
 /// The place that the second session's client raises.
 const SECOND_IS_ANSWERED: u32 = 0;

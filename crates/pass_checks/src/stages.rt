@@ -1,26 +1,26 @@
 //! The rows of two sessions: what each says of its site, its clients and their members, and whether it comes out so.
 ghost use Rattle.std.specs.Prelude.{◌≡◌, ◌∷◌, [], true, IfOk};
 ghost use Rattle.exchange.specs.Requests.{sizes_of};
-ghost use Rattle.jk_model.specs.Journal.{members};
+ghost use Rattle.lb_model.specs.Journal.{members};
 ghost use Rattle.pass_checks.specs.Starts.{IsFresh};
-ghost use Rattle.uri_map.specs.Sites.{stands_in};
+ghost use Rattle.site_mounts.specs.Sites.{stands_in};
 
 use crate::sessions::{Stage, Texts, tell_stage};
 use anyhow::Result as Judged;
-use balancer_core::Book;
 use check_rows::comparing::wants;
 use check_rows::files::{print_count, read_rows};
 use check_rows::row::{BlockRow, RowError};
 use check_rows::texts::With;
 use jk_io::{Bytes, MAX_INPUT_BYTES, NoMemory, Peer};
+use lb_book::Book;
 use site_config::Config;
+use site_mounts::{MapError, UriMap, read_map};
+use site_workers::{PropsError, read_workers};
 use std::alloc::Global;
 use std::rt::Files;
 use std::sync::Wait;
 use std::thread::Threads;
 use std::time::Clock;
-use uri_map::{MapError, UriMap, read_map};
-use worker_props::{PropsError, read_workers};
 
 /// The file of the rows.
 const FILE: &str = "pass/sessions.txt";

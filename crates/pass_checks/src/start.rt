@@ -2,9 +2,9 @@
 ghost use Rattle.std.specs.Prelude.{IfOk};
 ghost use Rattle.pass_checks.specs.Starts.{IsFresh};
 
-use balancer_core::Book;
 use jk_io::{Bytes, NoMemory};
-use jk_model::{Activation, LbConfig, MemberConfig, MemberList, Method};
+use lb_book::Book;
+use lb_model::{Activation, LbConfig, MemberConfig, MemberList, Method};
 use std::alloc::Global;
 
 fn member(alloc: Global, name: &[u8]) -> Result<MemberConfig, NoMemory> {

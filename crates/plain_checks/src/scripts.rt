@@ -1,7 +1,7 @@
 //! Lines of a script, by the calls below `play`.
 use crate::row_text::RowText;
 use jk_io::{Bytes, ListOf, NoMemory};
-use jk_model::{Activation, LbConfig, MemberConfig, MemberRow, MemberState};
+use lb_model::{Activation, LbConfig, MemberConfig, MemberRow, MemberState};
 use play_script::{BegunScript, NameList, Parts, Step, begin, put_rows, step_of};
 use std::alloc::Global;
 

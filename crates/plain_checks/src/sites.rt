@@ -1,9 +1,9 @@
 //! A site's two files, by the calls below `config` and `match`.
 use crate::row_text::RowText;
 use jk_io::MAX_INPUT_BYTES;
+use site_mounts::{UriMap, read_map};
+use site_workers::{Config, Lb, Named, Property, read_properties, read_workers};
 use std::alloc::Global;
-use uri_map::{UriMap, read_map};
-use worker_props::{Config, Lb, Named, Property, read_properties, read_workers};
 
 fn put_named(out: &mut RowText, named: Option<Named>) {
     match named {

@@ -1,12 +1,12 @@
 -- From the balancer's start to what its lines print.
 use Rattle.std.proofs.Common.{ℕ, ◌≡◌, ◌++◌, false, List, [], Option, Some, None, map, reverse, sym, ap, ◌∙◌, subst, inr}
 use Rattle.std.specs.Option.{is_none}
-use Rattle.jk_model.specs.declared.config.LbConfig.{LbConfig}
-use Rattle.jk_model.specs.declared.journal.Entry.{Entry}
+use Rattle.lb_model.specs.declared.config.LbConfig.{LbConfig}
+use Rattle.lb_model.specs.declared.journal.Entry.{Entry}
 use Rattle.play_script.specs.declared.step.Step.{Step}
 use Rattle.play_script.specs.Drafts as draft
 use Rattle.play_script.specs.Play.{Runs, Starts}
-use Rattle.balancer_core.specs.Journal.{Journal, IsStart, past_of}
+use Rattle.lb_book.specs.Journal.{Journal, IsStart, past_of}
 use Rattle.plain_commands.specs.Turns.{AppendsRun}
 
 -- the Book that was started has the opening of the draft

@@ -3,10 +3,10 @@ use Rattle.std.proofs.Common.{◌≡◌, ℕ, List, [], ◌++◌, Option, Some, 
 use Rattle.jk_io.specs.Memory.{MemLinkState}
 use Rattle.jk_io.specs.MemReaches.{MemReachState}
 use Rattle.jk_io.specs.declared.reaching.Talk.{Talk}
-use Rattle.jk_model.specs.declared.served.Served.{Served}
-use Rattle.balancer_core.specs.Desks.{DeskState}
-use Rattle.balancer_core.specs.Journal.{Journal}
-use Rattle.balancer_core.specs.PlainDesks.{plain_state}
+use Rattle.lb_model.specs.declared.served.Served.{Served}
+use Rattle.lb_book.specs.Desks.{DeskState}
+use Rattle.lb_book.specs.Journal.{Journal}
+use Rattle.lb_book.specs.PlainDesks.{plain_state}
 use Rattle.client_session.specs.Parts.{HasParts}
 use Rattle.client_session.specs.Requests.{Visit}
 use Rattle.client_session.specs.Sessions.{Serves}

@@ -1,13 +1,13 @@
 -- What an entry of the Book means for a script.
 use Rattle.std.proofs.Common.{ℕ, ◌+◌, ◌^◌, ◌≡◌, ◌≤◌, ◌<◌, List, [], ◌∷◌, ◌++◌, length, reverse, refl, sym, ap, ◌∙◌, subst, arith, append_assoc, length-append, inl, inr}
 use Rattle.std.proofs.lemmas.List.{length-reverse, append-nil}
-use Rattle.jk_model.specs.declared.journal.Call.{Call}
-use Rattle.jk_model.specs.declared.journal.Entry.{Entry}
-use Rattle.jk_model.specs.declared.opening.Opening.{Opening}
-use Rattle.jk_model.specs.Tickets.{out}
-use Rattle.jk_model.specs.Legal.{IsLegalPast}
-use Rattle.jk_model.proofs.OutFacts.{out_one_more, out-opening}
-use Rattle.balancer_core.specs.Journal.{Journal, IsSound, AddsEntry, past_of, next_number, tickets_out}
+use Rattle.lb_model.specs.declared.journal.Call.{Call}
+use Rattle.lb_model.specs.declared.journal.Entry.{Entry}
+use Rattle.lb_model.specs.declared.opening.Opening.{Opening}
+use Rattle.lb_model.specs.Tickets.{out}
+use Rattle.lb_model.specs.Legal.{IsLegalPast}
+use Rattle.lb_model.proofs.OutFacts.{out_one_more, out-opening}
+use Rattle.lb_book.specs.Journal.{Journal, IsSound, AddsEntry, past_of, next_number, tickets_out}
 use Rattle.std.proofs.lemmas.Bool.{cases_Bool, MatchBool-at_true, MatchBool-at_false}
 use Rattle.play_script.specs.Play.{is_skipped, AddsCall, SaysLine, Runs}
 use Rattle.play_script.specs.declared.printed.ScriptRefusal.{ScriptRefusal}

@@ -5,13 +5,13 @@ use Rattle.request_log.specs.declared.format.Part.{Part}
 use Rattle.site_config.specs.Refusals.{LineRefusal}
 use Rattle.jk_io.specs.MemReaches.{MemReachState}
 use Rattle.jk_io.specs.declared.reaching.Talk.{Talk}
-use Rattle.jk_model.specs.declared.served.Served.{Served}
-use Rattle.balancer_core.specs.Journal.{Journal}
-use Rattle.balancer_core.specs.PlainDesks.{plain_state}
+use Rattle.lb_model.specs.declared.served.Served.{Served}
+use Rattle.lb_book.specs.Journal.{Journal}
+use Rattle.lb_book.specs.PlainDesks.{plain_state}
 use Rattle.site_reports.specs.Starts.{AreStarts}
 use Rattle.site_config.specs.declared.config.Config.{Config}
-use Rattle.uri_map.specs.Lines.{read_text}
-use Rattle.uri_map.specs.declared.rule.Rule.{Rule}
+use Rattle.site_mounts.specs.Lines.{read_text}
+use Rattle.site_mounts.specs.declared.rule.Rule.{Rule}
 use Rattle.site_reports.specs.Reports.{OfWorkers, Refuses}
 use Rattle.client_session.specs.Parts.{HasParts}
 use Rattle.client_session.specs.Requests.{Visit, undated, visit}

@@ -3,9 +3,9 @@ use Rattle.std.specs.Prelude.{◌≡◌, List, [], None}
 use Rattle.jk_io.specs.Memory.{MemLinkState}
 use Rattle.jk_io.specs.MemReaches.{MemReachState}
 use Rattle.exchange.specs.Requests.{sizes_of}
-use Rattle.balancer_core.specs.Desks.{DeskState}
-use Rattle.balancer_core.specs.Journal.{Journal}
-use Rattle.balancer_core.specs.PlainDesks.{plain_state}
+use Rattle.lb_book.specs.Desks.{DeskState}
+use Rattle.lb_book.specs.Journal.{Journal}
+use Rattle.lb_book.specs.PlainDesks.{plain_state}
 use Rattle.site_reports.specs.Starts.{AreStarts}
 use Rattle.site_config.specs.declared.balancer.Lb.{Lb}
 

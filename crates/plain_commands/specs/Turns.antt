@@ -1,14 +1,14 @@
 -- What a line of a script does with the Book.
 use Rattle.std.specs.Prelude.{◌≡◌, ℕ, ◌+◌, ◌<◌, ◌≤◌, max, ◌⊎◌, false, List, [], ◌∷◌, ◌++◌, length, Some}
 use Rattle.std.specs.Bool.{MatchBool}
-use Rattle.balancer_core.specs.Journal.{Journal, IsSound, past_of}
-use Rattle.jk_model.specs.Limits.{modern_rules}
-use Rattle.jk_model.specs.declared.journal.Call.{Call}
-use Rattle.jk_model.specs.declared.journal.Call.TheVariants as call
-use Rattle.jk_model.specs.declared.journal.Entry.{Entry}
-use Rattle.jk_model.specs.Journal.{maintained_of, members, moment_of}
-use Rattle.jk_model.specs.Present.{ArePresentRows}
-use Rattle.jk_model.specs.declared.view.MemberRow.{MemberRow}
+use Rattle.lb_book.specs.Journal.{Journal, IsSound, past_of}
+use Rattle.lb_model.specs.Limits.{modern_rules}
+use Rattle.lb_model.specs.declared.journal.Call.{Call}
+use Rattle.lb_model.specs.declared.journal.Call.TheVariants as call
+use Rattle.lb_model.specs.declared.journal.Entry.{Entry}
+use Rattle.lb_model.specs.Journal.{maintained_of, members, moment_of}
+use Rattle.lb_model.specs.Present.{ArePresentRows}
+use Rattle.lb_model.specs.declared.view.MemberRow.{MemberRow}
 use Rattle.play_script.specs.Printed.{row_lines}
 use Rattle.play_script.specs.declared.printed.ScriptRefusal.{ScriptRefusal}
 use Rattle.play_script.specs.declared.step.Step.{Step}

@@ -1,7 +1,7 @@
 //! A whole script, from its lines to what it prints.
 ghost use Rattle.std.specs.Prelude.{◌≡◌, ◌+◌, ◌<◌, ◌≤◌, ◌^◌, [], ◌∷◌, length, IfOk, false};
 ghost use Rattle.std.specs.Option.{is_none};
-ghost use Rattle.balancer_core.specs.Journal.{past_of};
+ghost use Rattle.lb_book.specs.Journal.{past_of};
 ghost use Rattle.play_script.specs.Drafts.{names_in, IsConfigOf};
 ghost use Rattle.play_script.specs.Play.{is_skipped, Stops, Runs, Starts, PlaysScript};
 ghost use Rattle.play_script.specs.Steps.{step_of};
@@ -10,9 +10,9 @@ ghost use Rattle.plain_commands.specs.Turns.{IsPlayed, AppendsRun};
 ghost use Rattle.jk_io.specs.declared.whole_input.TheConstants.{MAX_INPUT_BYTES};
 
 use crate::turn::{Stop, take_line};
-use balancer_core::Book;
 use jk_io::{Bytes, NoMemory};
-use jk_model::LbConfig;
+use lb_book::Book;
+use lb_model::LbConfig;
 use play_script::{
     BegunScript, DraftError, NameList, Parts, ScriptRefusal, begin, put_refusal, step_of,
 };

@@ -1,14 +1,14 @@
 //! One line of a script, on the Book.
 ghost use Rattle.std.specs.Prelude.{◌≡◌, ◌+◌, ◌<◌, ◌≤◌, ◌^◌, length, IfOk, IfErr, OnOk};
-ghost use Rattle.balancer_core.specs.Journal.{past_of};
+ghost use Rattle.lb_book.specs.Journal.{past_of};
 ghost use Rattle.play_script.specs.Play.{IsAskRefused, IsCommandRefused};
 ghost use Rattle.play_script.specs.Steps.{HasSmallBytes, IsSmall};
 ghost use Rattle.plain_commands.specs.Turns.{IsPlayed, Adds, AnsweredCall, Maintains, Said, ShownRows, Taken, Tells, Refuses, RefusesStep};
-ghost use Rattle.jk_model.specs.declared.journal.TheConstants.{MOST_BYTES};
+ghost use Rattle.lb_model.specs.declared.journal.TheConstants.{MOST_BYTES};
 
-use balancer_core::{Book, Picked};
 use jk_io::{Bytes, NoMemory};
-use jk_model::{AdminError, Ask, Call, Command, Outcome, RoomError};
+use lb_book::{Book, Picked};
+use lb_model::{AdminError, Ask, Call, Command, Outcome, RoomError};
 use play_script::{NameList, ScriptRefusal, Step, is_skipped, put_answer, put_rows, step_of};
 
 /// A Book of a script has fewer entries than this: a script has fewer than 2^32 lines, and each adds two at most.

@@ -1,15 +1,15 @@
 -- Each form of a line is read as what it says.
 use Rattle.std.proofs.Common.{ℕ, ◌≡◌, ◌++◌, List, [], ◌∷◌, Option, Some, None, false, refl, sym, ap, ◌∙◌, codes, option_map}
 use Rattle.jk_io.specs.Decimals.{decimal_of}
-use Rattle.jk_model.specs.declared.change.Change.{Change}
-use Rattle.jk_model.specs.declared.change.Command.TheVariants as command
-use Rattle.jk_model.specs.declared.journal.Call.TheVariants as call
-use Rattle.jk_model.specs.declared.journal.Kind.{Kind}
-use Rattle.jk_model.specs.declared.journal.Kind.TheVariants as kind
+use Rattle.lb_model.specs.declared.change.Change.{Change}
+use Rattle.lb_model.specs.declared.change.Command.TheVariants as command
+use Rattle.lb_model.specs.declared.journal.Call.TheVariants as call
+use Rattle.lb_model.specs.declared.journal.Kind.{Kind}
+use Rattle.lb_model.specs.declared.journal.Kind.TheVariants as kind
 use Rattle.play_script.specs.declared.step.Step.{Step}
 use Rattle.play_script.specs.declared.step.Step.TheVariants as step
 use Rattle.play_script.specs.Names.{index_of}
-use Rattle.jk_model.specs.declared.change.Redirect.{Redirect}
+use Rattle.lb_model.specs.declared.change.Redirect.{Redirect}
 use Rattle.play_script.specs.Fields.{given, number_in, redirect_in, redirect_of, kept_without}
 use Rattle.play_script.specs.Values.{◌>>=◌, activation_of, short_number, byte_count, end, value_of, past}
 use Rattle.play_script.specs.Steps.{ask_of, step_from, change_of, change_after}

@@ -1,14 +1,14 @@
 -- A balancer as its lines describe it, and the configuration and start that are made of that.
 use Rattle.std.specs.Prelude.{◌≡◌, ℕ, Bool, true, false, ◌⊎◌, List, [], ◌∷◌, ◌++◌, map, Option, Some, None, is_some, option_and_then}
 use Rattle.std.specs.List.{list_all}
-use Rattle.jk_model.specs.Ranges.{IsRefused}
-use Rattle.jk_model.specs.declared.config.LbConfig.{LbConfig}
-use Rattle.jk_model.specs.declared.config_error.ConfigError.{ConfigError}
-use Rattle.jk_model.specs.declared.member.MemberConfig.{MemberConfig}
-use Rattle.jk_model.specs.declared.member.Method.TheVariants as method
-use Rattle.jk_model.specs.declared.state.MemberState.TheVariants as state
-use Rattle.jk_model.specs.declared.view.MemberRow.{MemberRow}
-use Rattle.jk_model.specs.declared.opening.Opening.{Opening}
+use Rattle.lb_model.specs.Ranges.{IsRefused}
+use Rattle.lb_model.specs.declared.config.LbConfig.{LbConfig}
+use Rattle.lb_model.specs.declared.config_error.ConfigError.{ConfigError}
+use Rattle.lb_model.specs.declared.member.MemberConfig.{MemberConfig}
+use Rattle.lb_model.specs.declared.member.Method.TheVariants as method
+use Rattle.lb_model.specs.declared.state.MemberState.TheVariants as state
+use Rattle.lb_model.specs.declared.view.MemberRow.{MemberRow}
+use Rattle.lb_model.specs.declared.opening.Opening.{Opening}
 use Rattle.play_script.specs.declared.head.BalancerLine.{BalancerLine}
 use Rattle.play_script.specs.Names.{index_of}
 use Rattle.play_script.specs.Heads.{MemberWords, HeadWords, At, Rule, Member}

@@ -1,9 +1,9 @@
 -- Fields KEY=VALUE of a line, each of which may be left out. A field that is there must be of its form.
 use Rattle.std.specs.Prelude.{ℕ, List, Option, Some, None, codes, if◌then◌else◌, option_map}
 use Rattle.std.specs.Str.{bytes_eq}
-use Rattle.jk_model.specs.declared.member.Activation.{Activation}
-use Rattle.jk_model.specs.declared.change.Redirect.{Redirect}
-use Rattle.jk_model.specs.declared.change.Redirect.TheVariants as redirect
+use Rattle.lb_model.specs.declared.member.Activation.{Activation}
+use Rattle.lb_model.specs.declared.change.Redirect.{Redirect}
+use Rattle.lb_model.specs.declared.change.Redirect.TheVariants as redirect
 use Rattle.play_script.specs.Names.{is_name, index_of}
 use Rattle.play_script.specs.Values.{activation_of, short_number, value_of}
 

@@ -1,13 +1,13 @@
 -- The lines after the balancer's own, as a table: which words say what.
 use Rattle.std.specs.Prelude.{◌≡◌, ℕ, false, true, List, [], ◌∷◌, ◌++◌, Option, Some, None, codes}
 use Rattle.jk_io.specs.Decimals.{decimal_of}
-use Rattle.jk_model.specs.declared.change.Change.{Change}
-use Rattle.jk_model.specs.declared.change.Command.TheVariants as command
-use Rattle.jk_model.specs.declared.change.Redirect.{Redirect}
-use Rattle.jk_model.specs.declared.change.Redirect.TheVariants as redirect
-use Rattle.jk_model.specs.declared.journal.Call.TheVariants as call
-use Rattle.jk_model.specs.declared.journal.Kind.{Kind}
-use Rattle.jk_model.specs.declared.journal.Kind.TheVariants as kind
+use Rattle.lb_model.specs.declared.change.Change.{Change}
+use Rattle.lb_model.specs.declared.change.Command.TheVariants as command
+use Rattle.lb_model.specs.declared.change.Redirect.{Redirect}
+use Rattle.lb_model.specs.declared.change.Redirect.TheVariants as redirect
+use Rattle.lb_model.specs.declared.journal.Call.TheVariants as call
+use Rattle.lb_model.specs.declared.journal.Kind.{Kind}
+use Rattle.lb_model.specs.declared.journal.Kind.TheVariants as kind
 use Rattle.play_script.specs.declared.step.Step.{Step}
 use Rattle.play_script.specs.declared.step.Step.TheVariants as step
 use Rattle.play_script.specs.Names.{index_of}

@@ -1,9 +1,9 @@
 -- The lines that make the balancer.
 use Rattle.std.specs.Prelude.{ℕ, Bool, List, [], ◌∷◌, Option, Some, None, codes, option_map, unwrap_or, is_some, if◌then◌else◌}
 use Rattle.jk_io.specs.Decimals.{decimal_of}
-use Rattle.jk_model.specs.declared.member.Activation.{Activation}
-use Rattle.jk_model.specs.declared.member.Activation.TheVariants as state
-use Rattle.jk_model.specs.declared.member.Method.{Method}
+use Rattle.lb_model.specs.declared.member.Activation.{Activation}
+use Rattle.lb_model.specs.declared.member.Activation.TheVariants as state
+use Rattle.lb_model.specs.declared.member.Method.{Method}
 use Rattle.play_script.specs.declared.verb.Verb.{Verb}
 use Rattle.play_script.specs.declared.verb.Verb.TheVariants as verb
 use Rattle.play_script.specs.declared.head.BalancerLine.{BalancerLine}

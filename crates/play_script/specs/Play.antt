@@ -3,17 +3,17 @@
 use Rattle.std.specs.Prelude.{◌≡◌, ℕ, ◌+◌, ◌^◌, ◌<◌, ◌≤◌, ◌==◌, max, Bool, true, false, ◌⊎◌, List, [], ◌∷◌, ◌++◌, Option, Some, None}
 use Rattle.std.specs.Bool.{MatchBool}
 use Rattle.std.specs.Option.{MatchOption}
-use Rattle.jk_model.specs.Journal.{maintained_of, members, moment_of}
-use Rattle.jk_model.specs.Legal.{HasValues, IsNext, TargetExists, subject_of}
-use Rattle.jk_model.specs.Present.{ArePresentRows}
-use Rattle.jk_model.specs.Settings.{common_after}
-use Rattle.jk_model.specs.Tickets.{is_out}
-use Rattle.jk_model.specs.declared.change.Command.{Command}
-use Rattle.jk_model.specs.declared.journal.Call.{Call}
-use Rattle.jk_model.specs.declared.journal.Call.TheVariants as call
-use Rattle.jk_model.specs.declared.journal.Entry.{Entry}
-use Rattle.jk_model.specs.declared.opening.Opening.{Opening}
-use Rattle.jk_model.specs.declared.view.MemberRow.{MemberRow}
+use Rattle.lb_model.specs.Journal.{maintained_of, members, moment_of}
+use Rattle.lb_model.specs.Legal.{HasValues, IsNext, TargetExists, subject_of}
+use Rattle.lb_model.specs.Present.{ArePresentRows}
+use Rattle.lb_model.specs.Settings.{common_after}
+use Rattle.lb_model.specs.Tickets.{is_out}
+use Rattle.lb_model.specs.declared.change.Command.{Command}
+use Rattle.lb_model.specs.declared.journal.Call.{Call}
+use Rattle.lb_model.specs.declared.journal.Call.TheVariants as call
+use Rattle.lb_model.specs.declared.journal.Entry.{Entry}
+use Rattle.lb_model.specs.declared.opening.Opening.{Opening}
+use Rattle.lb_model.specs.declared.view.MemberRow.{MemberRow}
 use Rattle.play_script.specs.declared.printed.ScriptRefusal.{ScriptRefusal}
 use Rattle.play_script.specs.declared.printed.ScriptRefusal.TheVariants as refusal
 use Rattle.play_script.specs.declared.step.Step.{Step}

@@ -1,13 +1,13 @@
 -- The lines that `play` prints.
 use Rattle.std.specs.Prelude.{ℕ, Bool, List, [], ◌∷◌, ◌++◌, codes, decimal, slice_index_or, if◌then◌else◌}
 use Rattle.std.specs.List.{flat_map}
-use Rattle.jk_model.specs.declared.state.MemberState.{MemberState}
-use Rattle.jk_model.specs.declared.state.MemberState.TheVariants as state
-use Rattle.jk_model.specs.declared.view.MemberRow.{MemberRow}
-use Rattle.jk_model.specs.declared.journal.How.{How}
-use Rattle.jk_model.specs.declared.journal.How.TheVariants as how
-use Rattle.jk_model.specs.declared.journal.Answer.{Answer}
-use Rattle.jk_model.specs.declared.journal.Answer.TheVariants as answer
+use Rattle.lb_model.specs.declared.state.MemberState.{MemberState}
+use Rattle.lb_model.specs.declared.state.MemberState.TheVariants as state
+use Rattle.lb_model.specs.declared.view.MemberRow.{MemberRow}
+use Rattle.lb_model.specs.declared.journal.How.{How}
+use Rattle.lb_model.specs.declared.journal.How.TheVariants as how
+use Rattle.lb_model.specs.declared.journal.Answer.{Answer}
+use Rattle.lb_model.specs.declared.journal.Answer.TheVariants as answer
 use Rattle.play_script.specs.declared.printed.ScriptRefusal.{ScriptRefusal}
 use Rattle.play_script.specs.declared.printed.ScriptRefusal.TheVariants as refusal
 

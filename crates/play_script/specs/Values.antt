@@ -3,10 +3,10 @@ use Rattle.std.specs.Prelude.{ℕ, Bool, true, false, ◌==◌, ◌||◌, nat_le
 use Rattle.std.specs.List.{starts_with}
 use Rattle.std.specs.Str.{bytes_eq}
 use Rattle.jk_io.specs.Decimals.{decimal_of}
-use Rattle.jk_model.specs.declared.member.Activation.{Activation}
-use Rattle.jk_model.specs.declared.member.Activation.TheVariants as activation
-use Rattle.jk_model.specs.declared.member.Method.{Method}
-use Rattle.jk_model.specs.declared.member.Method.TheVariants as method
+use Rattle.lb_model.specs.declared.member.Activation.{Activation}
+use Rattle.lb_model.specs.declared.member.Activation.TheVariants as activation
+use Rattle.lb_model.specs.declared.member.Method.{Method}
+use Rattle.lb_model.specs.declared.member.Method.TheVariants as method
 
 infixl 10 ◌>>=◌
 abbrev pub ◌>>=◌ : {A B : Type 0} → Option A → (A → Option B) → Option B

@@ -7,7 +7,7 @@ ghost use Rattle.play_script.specs.Words.{words_of_member};
 use crate::head::{BalancerLine, MemberLine};
 use crate::names::{NameList, index_of};
 use jk_io::{Bytes, ListOf, NoMemory};
-use jk_model::{LbConfig, MemberConfig, MemberList, Method};
+use lb_model::{LbConfig, MemberConfig, MemberList, Method};
 use std::alloc::{AllocError, Global};
 use std::marker::Model;
 use thiserror::Error;

@@ -6,7 +6,7 @@ ghost use Rattle.play_script.specs.Fields.{activation_in, number_in, name_in, re
 use crate::names::{NameList, index_of, is_name};
 use crate::parts::{Parts, is};
 use crate::values::{activation_of, short_number};
-use jk_model::{Activation, Redirect};
+use lb_model::{Activation, Redirect};
 
 /// A field `activation=X`.
 pub(crate) fn activation_in(words: &mut Parts) -> Option<Option<Activation>>

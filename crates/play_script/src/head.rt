@@ -9,7 +9,7 @@ use crate::parts::Parts;
 use crate::values::{flag_of, method_of, short_number};
 use crate::verb::{Verb, verb_of};
 use jk_io::parse_decimal;
-use jk_model::{Activation, Method};
+use lb_model::{Activation, Method};
 
 /// What an `lb` line says.
 #[derive(Clone, Copy)]

@@ -1,6 +1,6 @@
 //! The script of `play`: its lines, what each line says, and what the whole of it prints.
 //!
-//! Source: own rules; the calls that a script makes are those of the balancer (jk_model).
+//! Source: own rules; the calls that a script makes are those of the balancer (lb_model).
 //! Shapes: a line's words stand between single spaces; a name has letters, digits, `-` and `_`.
 //! Contract: `head_of` and `step_of`, the meaning of a line; `begin`, clause `leads`.
 //! Read first: specs/Heads.antt and specs/Steps.antt (lines), then specs/Play.antt (what a script prints).

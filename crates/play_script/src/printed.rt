@@ -3,7 +3,7 @@ ghost use Rattle.play_script.specs.Printed.{name_at, how_words, probe_words, ans
 
 use crate::names::NameList;
 use jk_io::{Bytes, NoMemory, put_decimal};
-use jk_model::{Answer, How, MemberRow, MemberState};
+use lb_model::{Answer, How, MemberRow, MemberState};
 
 /// Why a script ends before its last line.
 #[derive(Clone, Copy)]

@@ -1,7 +1,7 @@
 ghost use Rattle.std.specs.Prelude.{◌≡◌, ℕ, ◌<◌, ◌^◌, List, [], length, false, true, None, Some, ◌≤◌, IfSome, option_map};
 ghost use Rattle.play_script.specs.Values.{end};
 ghost use Rattle.play_script.specs.Steps.{ask_of, old_ask, select_of, bytes_in, return_of, change_after, change_of, update_of, member_named, step_by, step_of, HasSmallBytes, IsSmall};
-ghost use Rattle.jk_model.specs.declared.journal.TheConstants.{MOST_BYTES};
+ghost use Rattle.lb_model.specs.declared.journal.TheConstants.{MOST_BYTES};
 
 use crate::fields::{activation_in, number_in, redirect_in};
 use crate::names::{NameList, index_of};
@@ -9,7 +9,7 @@ use crate::parts::{Parts, is};
 use crate::values::byte_count;
 use crate::verb::{Verb, verb_of};
 use jk_io::parse_decimal;
-use jk_model::{Activation, Ask, Call, Change, Command, Kind, Outcome};
+use lb_model::{Activation, Ask, Call, Change, Command, Kind, Outcome};
 
 /// What a line after the balancer's own says.
 #[derive(Clone, Copy, Debug)]

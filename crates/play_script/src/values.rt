@@ -3,7 +3,7 @@ ghost use Rattle.play_script.specs.Values.{number_up_to, short_number, byte_coun
 
 use crate::parts::is;
 use jk_io::parse_decimal;
-use jk_model::{Activation, MOST_BYTES, Method};
+use lb_model::{Activation, MOST_BYTES, Method};
 
 fn number_up_to(most: u64, text: &[u8]) -> Option<u64>
     ensures value { result ≡ number_up_to most text.now }

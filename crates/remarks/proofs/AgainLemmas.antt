@@ -4,8 +4,8 @@ use Rattle.std.specs.Map.{update}
 use Rattle.std.specs.Option.{option_map}
 use Rattle.std.specs.Str.{bytes_eq}
 use Rattle.site_config.specs.declared.property.Property.{Property}
-use Rattle.worker_props.proofs.RowLemmas.{last_of-snoc}
-use Rattle.worker_props.specs.Given.{last_of}
+use Rattle.site_workers.proofs.RowLemmas.{last_of-snoc}
+use Rattle.site_workers.specs.Given.{last_of}
 use Rattle.remarks.specs.Again.{gives_single, is_single, last_line}
 
 -- the last line after one more

@@ -4,7 +4,7 @@ use Rattle.std.proofs.lemmas.List.{map-append, take_more}
 use Rattle.std.specs.Map.{update}
 use Rattle.std.specs.Str.{bytes_eq}
 use Rattle.site_config.specs.declared.values.WorkerKind.{WorkerKind}
-use Rattle.worker_props.specs.Given.{or_else}
+use Rattle.site_workers.specs.Given.{or_else}
 use Rattle.remarks.specs.KindTables.{as_kinds}
 use Rattle.remarks.specs.Notices.{kind_among}
 

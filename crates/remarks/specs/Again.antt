@@ -11,7 +11,7 @@ use Rattle.site_config.specs.declared.directive.Directive.TheVariants as directi
 use Rattle.site_config.specs.declared.property.Property.{Property}
 use Rattle.site_config.specs.Directives.{directive_of, maintain_key, worker_part}
 use Rattle.site_config.specs.Properties.{said}
-use Rattle.worker_props.specs.Given.{last_of}
+use Rattle.site_workers.specs.Given.{last_of}
 use denote.Ref.{Bor}
 
 -- what a line of this number says, if something, where it isn't refused

@@ -13,10 +13,10 @@ use Rattle.site_config.specs.declared.values.WorkerKind.TheVariants as kind
 use Rattle.remarks.specs.Explained.{said_of}
 use Rattle.remarks.specs.Notices.{kind_among}
 use Rattle.remarks.specs.Wanted.{key_in}
-use Rattle.uri_map.specs.Mounts.{line_count}
-use Rattle.uri_map.specs.Parts.{disabled, pieces_of, reply_timeout, sticky_ignore, stopped}
-use Rattle.uri_map.specs.Sides.{Left, left_of}
-use Rattle.uri_map.specs.declared.rule.Rule.{Rule}
+use Rattle.site_mounts.specs.Mounts.{line_count}
+use Rattle.site_mounts.specs.Parts.{disabled, pieces_of, reply_timeout, sticky_ignore, stopped}
+use Rattle.site_mounts.specs.Sides.{Left, left_of}
+use Rattle.site_mounts.specs.declared.rule.Rule.{Rule}
 
 -- a name of a part that has an effect
 abbrev pub is_part_name : List ℕ → Bool

@@ -4,7 +4,7 @@ use Rattle.std.specs.Bool.{nat_eq}
 use Rattle.std.specs.List.{flat_map, list_any, starts_with}
 use Rattle.std.specs.Option.{option_to_list}
 use Rattle.std.specs.Str.{bytes_eq}
-use Rattle.jk_model.specs.declared.member.MemberConfig.{MemberConfig}
+use Rattle.lb_model.specs.declared.member.MemberConfig.{MemberConfig}
 use Rattle.site_config.specs.declared.directive.Directive.{Directive}
 use Rattle.site_config.specs.declared.directive.Directive.TheVariants as directive
 use Rattle.site_config.specs.declared.property.Property.{Property}
@@ -15,7 +15,7 @@ use Rattle.site_config.specs.declared.balancer.Lb.{Lb}
 use Rattle.site_config.specs.declared.config.Config.{Config}
 use Rattle.site_config.specs.declared.config.Named.{Named}
 use Rattle.site_config.specs.declared.config.Named.TheVariants as named
-use Rattle.worker_props.specs.Given.{or_else}
+use Rattle.site_workers.specs.Given.{or_else}
 use Rattle.remarks.specs.Again.{is_again}
 use Rattle.remarks.specs.Explained.{said_of}
 

@@ -8,8 +8,8 @@ use Rattle.site_config.specs.declared.config.Config.{Config}
 use Rattle.remarks.specs.declared.refused.Judge.{Judge}
 use Rattle.remarks.specs.declared.refused.Judge.TheVariants as judge
 use Rattle.remarks.specs.Explained.{map_words, said_of, workers_words}
-use Rattle.uri_map.specs.Lines as rules
-use Rattle.uri_map.specs.Refusals.{code_in}
+use Rattle.site_mounts.specs.Lines as rules
+use Rattle.site_mounts.specs.Refusals.{code_in}
 
 -- what is wrong with the line of this number in a workers.properties by itself, if something is
 abbrev pub wrong_line : ℕ → (line : List ℕ) → Option (List ℕ)

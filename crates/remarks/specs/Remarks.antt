@@ -14,9 +14,9 @@ use Rattle.remarks.specs.Explained.{explained_workers}
 use Rattle.remarks.specs.MapNotices.{empty_words, map_notices}
 use Rattle.remarks.specs.Notices.{kinds_of, notices, site_kinds}
 use Rattle.remarks.specs.Refused.{is_refused_by_line, refused_lines, wrong_line, wrong_rule}
-use Rattle.uri_map.specs.Lines.{read_text}
-use Rattle.uri_map.specs.declared.rule.Rule.{Rule}
-use Rattle.worker_props.specs.Site.{IsConfig, IsRefused}
+use Rattle.site_mounts.specs.Lines.{read_text}
+use Rattle.site_mounts.specs.declared.rule.Rule.{Rule}
+use Rattle.site_workers.specs.Site.{IsConfig, IsRefused}
 
 -- of the lines of a workers.properties that gives this configuration
 abbrev pub workers_remarks : (effects : Bool) → (file : List ℕ) → Config → List Property → List ℕ

@@ -6,7 +6,7 @@ ghost use Rattle.remarks.specs.KindTables.{as_kinds, IsKindTable};
 ghost use Rattle.remarks.specs.Notices.{balancer_kind, kinds_of, listed_kind, member_kinds, redirected_kind, redirected_kinds, redirecting};
 
 use jk_io::NoMemory;
-use jk_model::MemberConfig;
+use lb_model::MemberConfig;
 use site_config::{Config, Lb, Named, WorkerKind};
 use std::alloc::Global;
 use std::collections::HashMap;

@@ -12,8 +12,8 @@ use crate::map_notices::put_map_notices;
 use crate::remark_out::RemarkOut;
 use crate::site_file::SiteFile;
 use jk_io::{Bytes, IoError, NoMemory, Sink};
+use site_mounts::UriMap;
 use std::alloc::Global;
-use uri_map::UriMap;
 
 /// What is said of a map of which no line has a rule.
 fn empty_words(alloc: Global, file: &[u8], rules: &UriMap) -> Result<Bytes, NoMemory>

@@ -11,8 +11,8 @@ ghost use Rattle.remarks.specs.Added.{AddsText};
 ghost use Rattle.remarks.specs.KindTables.{IsKindTable};
 ghost use Rattle.remarks.specs.MapNotices.{behind_notices, is_list_name, is_part_name, lists_nobody, line_notices, map_notices, part_notice, parts_notices, side_notices};
 ghost use Rattle.site_config.specs.Properties.{is_silent};
-ghost use Rattle.uri_map.specs.Parts.{pieces_of};
-ghost use Rattle.uri_map.specs.Sides.{Left, behind_byte, left_of};
+ghost use Rattle.site_mounts.specs.Parts.{pieces_of};
+ghost use Rattle.site_mounts.specs.Sides.{Left, behind_byte, left_of};
 
 use crate::explain::{FileLine, put_said};
 use crate::kinds::KindTable;
@@ -70,7 +70,7 @@ fn is_silent(text: &[u8]) -> bool
 }
 
 /// Whether a part of this name has an effect.
-#[tactic(auto, unfolding(uri_map::specs::Parts::sticky_ignore, uri_map::specs::Parts::disabled, uri_map::specs::Parts::stopped, uri_map::specs::Parts::reply_timeout))]
+#[tactic(auto, unfolding(site_mounts::specs::Parts::sticky_ignore, site_mounts::specs::Parts::disabled, site_mounts::specs::Parts::stopped, site_mounts::specs::Parts::reply_timeout))]
 fn is_part_name(name: &[u8]) -> bool
     ensures { result ≡ is_part_name name.now }
 {
@@ -80,7 +80,7 @@ fn is_part_name(name: &[u8]) -> bool
 }
 
 /// Whether a part of this name lists members.
-#[tactic(auto, unfolding(uri_map::specs::Parts::disabled, uri_map::specs::Parts::stopped))]
+#[tactic(auto, unfolding(site_mounts::specs::Parts::disabled, site_mounts::specs::Parts::stopped))]
 fn is_list_name(name: &[u8]) -> bool
     ensures { result ≡ is_list_name name.now }
 {

@@ -12,8 +12,8 @@ use crate::remark_out::RemarkOut;
 use crate::site_file::SiteFile;
 use jk_io::{Bytes, IoError, NoMemory, Sink, trim};
 use site_config::{PropsError, first_line, said, without_mark};
+use site_mounts::{Workers, refusal_of};
 use std::alloc::Global;
-use uri_map::{Workers, refusal_of};
 
 /// By what a file's lines are judged.
 #[derive(Clone, Copy)]

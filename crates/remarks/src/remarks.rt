@@ -4,7 +4,7 @@ ghost use Rattle.std.specs.Option.{option_map};
 ghost use Rattle.jk_io.specs.Told.{HasCause};
 ghost use Rattle.site_config.specs.Properties as properties;
 ghost use Rattle.site_config.specs.declared.property.Property.{Property};
-ghost use Rattle.uri_map.specs.Lines.{read_text};
+ghost use Rattle.site_mounts.specs.Lines.{read_text};
 ghost use Rattle.site_config.specs.declared.config.Config.{Config};
 ghost use Rattle.remarks.specs.Explained.{explained_workers};
 ghost use Rattle.remarks.specs.KindTables.{IsKindTable};
@@ -23,9 +23,9 @@ use crate::remark_out::RemarkOut;
 use crate::site_file::{SiteFile, SiteFiles};
 use jk_io::{Bytes, IoError, Sink};
 use site_config::{Config, PropsError};
+use site_mounts::{MapError, Workers, read_map};
+use site_workers::read_workers;
 use std::alloc::Global;
-use uri_map::{MapError, Workers, read_map};
-use worker_props::read_workers;
 
 /// Adds each line of a map that is refused.
 fn put_map_refusals<O: Sink + Drop>(

@@ -5,7 +5,7 @@ use Rattle.std.specs.Option.{is_some as has_some}
 use Rattle.jk_io.specs.Told.{appended, HasCause, PutsFront}
 use Rattle.jk_io.specs.declared.failures.IoError.{IoError}
 use Rattle.jk_io.specs.declared.traits.streams.Meanings.{Ghosts}
-use Rattle.jk_model.specs.declared.served.Served.{Served}
+use Rattle.lb_model.specs.declared.served.Served.{Served}
 use Rattle.request_log.specs.declared.seen.Seen.{Seen}
 use Rattle.request_log.specs.Lines.{line_of}
 use Rattle.request_log.specs.LogRules.{is_some, not_both, one_log}

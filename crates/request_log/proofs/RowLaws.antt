@@ -3,7 +3,7 @@ use Rattle.std.proofs.Common.{◌≡◌, ℕ, List, [], ◌∷◌, ◌++◌, ref
 use Rattle.std.specs.Prelude.{codes}
 use Rattle.std.specs.List.{All, flat_map}
 use Rattle.std.proofs.lemmas.List.Elements.{All-head, All-tail}
-use Rattle.jk_model.specs.declared.served.Served.{Served}
+use Rattle.lb_model.specs.declared.served.Served.{Served}
 use Rattle.request_log.specs.declared.format.Part.{Part}
 use Rattle.request_log.specs.declared.format.Part.TheVariants as part
 use Rattle.request_log.specs.declared.seen.Seen.{Seen}

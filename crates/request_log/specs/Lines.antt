@@ -3,9 +3,9 @@ use Rattle.std.specs.Prelude.{ℕ, ◌≡◌, ◌+◌, ◌-◌, ◌/◌, ◌%◌
 use Rattle.std.specs.List.{All, before_first, flat_map, position_or_len}
 use Rattle.httpdate.specs.Text.{two_digits, four_digits, month_name, time_of_day}
 use Rattle.httpdate.specs.declared.date.HttpDate.{HttpDate}
-use Rattle.jk_model.specs.declared.served.Asked.{Asked}
-use Rattle.jk_model.specs.declared.served.Asked.TheVariants as asked
-use Rattle.jk_model.specs.declared.served.Served.{Served}
+use Rattle.lb_model.specs.declared.served.Asked.{Asked}
+use Rattle.lb_model.specs.declared.served.Asked.TheVariants as asked
+use Rattle.lb_model.specs.declared.served.Served.{Served}
 use Rattle.request_log.specs.declared.format.Part.{Part}
 use Rattle.request_log.specs.declared.format.Part.TheVariants as part
 use Rattle.request_log.specs.declared.seen.Seen.{Seen}

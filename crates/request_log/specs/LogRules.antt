@@ -9,7 +9,7 @@ use Rattle.jk_io.specs.declared.failures.IoError.{IoError}
 use Rattle.jk_io.specs.declared.failures.IoError.TheVariants as io
 use Rattle.jk_io.specs.declared.traits.streams.Meanings.{Ghosts}
 use Rattle.jk_io.proofs.ToldLaws.{appended-appended, appended-nil, Rose-within}
-use Rattle.jk_model.specs.declared.served.Served.{Served}
+use Rattle.lb_model.specs.declared.served.Served.{Served}
 use Rattle.request_log.specs.declared.format.Part.{Part}
 use Rattle.request_log.specs.declared.seen.Seen.{Seen}
 use Rattle.request_log.specs.Lines.{IsLogOf, Logged, line_of, lines_of, logged_line, rows_of}

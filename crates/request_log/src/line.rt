@@ -9,7 +9,7 @@ use crate::moment::put_moment;
 use crate::request_line::{put_first, put_method, put_path, put_query};
 use crate::seen::Seen;
 use jk_io::{Bytes, NoMemory, put_decimal};
-use jk_model::Served;
+use lb_model::Served;
 
 fn put_body(out: &mut Bytes, body: u64) -> Result<(), NoMemory>
     ensures { OnOk result (out.new ≡ out.old ++ body_text body) }

@@ -10,7 +10,7 @@ use crate::line::put_line;
 use crate::seen::Seen;
 use httpdate::HttpDate;
 use jk_io::{Bytes, IoError, MemLink, NoMemory, Peer, Sink, write_all};
-use jk_model::{RowSink, Served};
+use lb_model::{RowSink, Served};
 use std::alloc::Global;
 use std::marker::Model;
 

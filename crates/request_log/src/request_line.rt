@@ -4,7 +4,7 @@ ghost use Rattle.request_log.specs.Lines.{first_text, method_text, path_of, path
 
 use crate::escape::put_escaped;
 use jk_io::{Bytes, NoMemory};
-use jk_model::Asked;
+use lb_model::Asked;
 
 /// The target from its first `?` on.
 fn query_of(target: &[u8]) -> &[u8]

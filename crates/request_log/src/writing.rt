@@ -8,7 +8,7 @@ use crate::format::Format;
 use crate::line::put_line;
 use crate::seen::Seen;
 use jk_io::{Bytes, IoError, NoMemory, Sink, write_all};
-use jk_model::{Served, ServedList};
+use lb_model::{Served, ServedList};
 use std::alloc::Global;
 
 fn unseen(alloc: Global) -> Seen

@@ -1,4 +1,5 @@
 //! What the words of a row ask for, done over memory.
+use gear_worlds::MemWorld;
 use jk_cli::{Order, read_words};
 use jk_commands::{let_go, run_jkd};
 use jk_io::{Bytes, FileList, MemFiles, MemLink, NoMemory, NumberList};
@@ -6,7 +7,6 @@ use plain_commands::run_plain;
 use std::alloc::Global;
 use std::sync::Wait;
 use std::thread::Threads;
-use worker_gears::MemWorld;
 
 fn link_with(alloc: Global, text: &[u8]) -> Result<MemLink, NoMemory> {
     let text = Bytes::from_slice(alloc, text)?;

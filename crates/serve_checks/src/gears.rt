@@ -4,10 +4,11 @@ ghost use Rattle.std.specs.Prelude.{◌≤◌, length};
 use anyhow::Result;
 use check_rows::files::print_claim;
 use gear_parts::{GearOrder, World};
+use gear_worlds::{FileShelf, SegmentTurns};
 use jk_io::{Bytes, Files, ListOf, MAX_INPUT_BYTES, NoMemory, Sink, put_decimal, write_all};
-use jk_model::Segment;
 use journal_text::read_segments;
-use locked_balancer::Shelf;
+use lb_model::Segment;
+use lb_shared::Shelf;
 use outside_checks::{answers_a_dial, listener};
 use real_io::{Notices, RealFiles};
 use std::alloc::Global;
@@ -16,7 +17,6 @@ use std::net::{Net, TcpListener, TcpStream};
 use std::rt::Files as SystemFiles;
 use std::sync::Wait;
 use std::time::Clock;
-use worker_gears::{FileShelf, SegmentTurns};
 
 /// A journal's text with one segment.
 const TEXT: &[u8] =

@@ -4,16 +4,17 @@
 ghost use Rattle.std.specs.Prelude.{◌≡◌, vec_len, IfOk};
 
 use crate::meeting::{Served, config_of, map_of};
+use ajp_container::AppConfig;
 use check_rows::row::{BlockRow, RowError};
 use check_rows::texts::With;
 use conn_pool::NoTape;
+use gear_worlds::Gear;
 use jk_commands::let_go;
 use jk_io::{
     Bytes, Dial, Link, ListOf, MemLink, NoMemory, NumberList, StepClock, Stop, fill, write_all,
 };
 use jk_server::{SitePlan, cut_at, run_container, serve_gears};
-use locked_balancer::{KeptList, MemShelf};
-use mini_container::AppConfig;
+use lb_shared::{KeptList, MemShelf};
 use outside_checks::listener;
 use real_io::{TcpDial, TcpDoor};
 use site_config::Config;
@@ -22,7 +23,6 @@ use std::fmt::Write;
 use std::net::{Net, TcpListener, TcpStream};
 use std::sync::Wait;
 use std::thread::{self, Threads};
-use worker_gears::Gear;
 
 /// The most bytes that a client gets in a row.
 const MOST_BYTES: usize = 65_536;

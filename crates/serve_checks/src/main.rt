@@ -39,7 +39,7 @@ mod told;
 mod worlds;
 
 use anyhow::Result;
-use worker_gears::RealWorld;
+use gear_worlds::RealWorld;
 
 fn main(rt: HostRuntime) -> Result<()> {
     area::judge(&rt)?;

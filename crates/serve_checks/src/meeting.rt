@@ -2,26 +2,26 @@
 //!
 //! All that owns gears is written over any links, so that only the links themselves speak of the gate.
 ghost use Rattle.std.specs.Prelude.{◌≡◌, ◌<◌, true, vec_len, IfOk};
-ghost use Rattle.uri_map.specs.Sites.{stands_in};
+ghost use Rattle.site_mounts.specs.Sites.{stands_in};
 
 use crate::worlds::{client_by, link_of, push};
 use check_rows::row::{BlockRow, RowError};
 use conn_pool::NoTape;
+use gear_worlds::Gear;
 use jk_commands::let_go;
 use jk_io::{
     Bytes, ClientList, Dial, Gate, GateLink, IoError, Link, ListOf, MAX_INPUT_BYTES, MemDoor,
     MemLink, NoMemory, NumberList, StepClock, Turn,
 };
 use jk_server::{SitePlan, cut_at, serve_gears};
-use locked_balancer::{KeptList, MemShelf};
+use lb_shared::{KeptList, MemShelf};
 use site_config::Config;
+use site_mounts::{MapError, UriMap, read_map};
+use site_workers::{PropsError, read_workers};
 use std::alloc::Global;
 use std::sync::Wait;
 use std::thread::Threads;
 use std::time::Clock;
-use uri_map::{MapError, UriMap, read_map};
-use worker_gears::Gear;
-use worker_props::{PropsError, read_workers};
 
 /// A link that says what was sent on it.
 pub trait Shown {

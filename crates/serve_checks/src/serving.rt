@@ -3,11 +3,11 @@ use crate::doing::{put_checked, status_of};
 use crate::told::put_world;
 use crate::worlds::world_of;
 use check_rows::row::{BlockRow, RowError};
+use gear_worlds::MemWorld;
 use jk_io::{Bytes, MemFiles, MemLink, NoMemory, NumberList, put_decimal};
 use std::alloc::Global;
 use std::sync::Wait;
 use std::thread::Threads;
-use worker_gears::MemWorld;
 
 /// An output that takes all, or in which a write fails after as many bytes as its row says.
 fn output_of(alloc: Global, row: BlockRow<'_>) -> Result<MemLink, RowError> {

@@ -1,8 +1,8 @@
 //! What is told of a world after a command.
+use gear_worlds::{MemGear, MemWorld};
 use jk_io::{Bytes, MemLink, NoMemory, Talk, put_decimal};
-use jk_model::Segment;
 use journal_text::write_segment;
-use worker_gears::{MemGear, MemWorld};
+use lb_model::Segment;
 
 fn put_number(out: &mut Bytes, word: &[u8], number: u64) -> Result<(), NoMemory> {
     out.extend(word)?;

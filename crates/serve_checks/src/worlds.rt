@@ -1,12 +1,12 @@
 //! The world of a row: what its gears are made of.
 use check_rows::row::{BlockRow, RowError};
+use gear_worlds::{MemPlan, MemPlanList, MemWorld};
 use jk_io::{
     Bytes, ClientList, ListOf, MemDial, MemLink, MemLinkList, NoMemory, NumberList, Peer,
     StepClock, parse_decimal,
 };
-use locked_balancer::{KeptList, MemShelf};
+use lb_shared::{KeptList, MemShelf};
 use std::alloc::Global;
-use worker_gears::{MemPlan, MemPlanList, MemWorld};
 
 fn number_in(text: &str) -> Result<u64, RowError> {
     parse_decimal(text.as_bytes()).ok_or(RowError::Unreadable)

@@ -1,6 +1,6 @@
 -- What the session of a row starts with.
 use Rattle.std.specs.Prelude.{◌≡◌, List, None}
-use Rattle.balancer_core.specs.Desks.{DeskState}
+use Rattle.lb_book.specs.Desks.{DeskState}
 use Rattle.exchange.specs.Requests.{sizes_of}
 use Rattle.site_config.specs.declared.balancer.Lb.{Lb}
 

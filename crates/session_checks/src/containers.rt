@@ -1,10 +1,10 @@
 //! Talks of a connector with the container, as the container serves them.
 
+use ajp_container::{AppConfig, serve_ajp};
 use check_rows::rows::bytes_of;
 use check_rows::telling::{put_bytes, put_faults, put_shown};
 use check_rows::ways::{Way, link_of};
 use jk_io::{Bytes, MemLink, NoMemory};
-use mini_container::{AppConfig, serve_ajp};
 use std::alloc::Global;
 
 pub fn tell(

@@ -2,12 +2,11 @@
 ghost use Rattle.std.specs.Prelude.{◌≡◌, true, None, length, IfOk};
 ghost use Rattle.exchange.specs.Requests.{sizes_of as sizes_in};
 ghost use Rattle.session_checks.specs.Starts.{IsDeskOf};
-ghost use Rattle.uri_map.specs.Sites.{stands_in};
+ghost use Rattle.site_mounts.specs.Sites.{stands_in};
 
 use crate::sites::{config_of, map_of};
 use crate::start::desk_of;
 use crate::told::{put_awaited, put_balancer, put_rows, put_talks};
-use balancer_core::PlainDesk;
 use check_rows::rows::{bytes_of, number};
 use check_rows::telling::{part, put_bytes, put_faults, put_word};
 use check_rows::ways::{Way, link_of, writing};
@@ -16,12 +15,13 @@ use http_front::Inbox;
 use jk_io::{
     Bytes, MemLink, MemLinkList, MemReach, NoMemory, NumberList, PatientLink, Peer, StepClock,
 };
-use jk_model::{Served, ServedList};
+use lb_book::PlainDesk;
+use lb_model::{Served, ServedList};
 use site_config::Config;
+use site_mounts::UriMap;
 use site_reports::member_counts;
 use std::alloc::Global;
 use std::fmt::Write;
-use uri_map::UriMap;
 
 /// A row, and how its last bytes come: those of the client, or those of the first link.
 #[derive(Clone, Copy)]

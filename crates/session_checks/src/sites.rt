@@ -1,13 +1,13 @@
 //! The two files of a row's site.
 ghost use Rattle.std.specs.Prelude.{◌≡◌, true, IfOk, IfSome};
-ghost use Rattle.uri_map.specs.Sites.{stands_in};
+ghost use Rattle.site_mounts.specs.Sites.{stands_in};
 
 use check_rows::rows::bytes_of;
 use jk_io::{MAX_INPUT_BYTES, NoMemory};
 use site_config::Config;
+use site_mounts::{MapError, UriMap, read_map};
+use site_workers::{PropsError, read_workers};
 use std::alloc::Global;
-use uri_map::{MapError, UriMap, read_map};
-use worker_props::{PropsError, read_workers};
 
 /// The configuration of a workers.properties; None where it is refused.
 pub fn config_of(alloc: Global, text: &str) -> Result<Option<Config>, NoMemory> {

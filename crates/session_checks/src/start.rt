@@ -2,9 +2,9 @@
 ghost use Rattle.std.specs.Prelude.{IfOk};
 ghost use Rattle.session_checks.specs.Starts.{IsDeskOf};
 
-use balancer_core::PlainDesk;
 use jk_io::NoMemory;
-use jk_model::MOST_NUMBERS;
+use lb_book::PlainDesk;
+use lb_model::MOST_NUMBERS;
 use site_config::Lb;
 use site_reports::books_of;
 use std::alloc::Global;

@@ -10,7 +10,7 @@ use check_rows::telling::{put_bytes, put_count, put_shown, put_word};
 use check_rows::ways::{Way, link_of, writing};
 use http_front::{BodyFault, BodyIn, BodyPlan, Inbox};
 use jk_io::{Bytes, NoMemory, NumberList, PatientLink};
-use jk_model::FailList;
+use lb_model::FailList;
 use std::alloc::Global;
 
 /// The Forward Request of `GET /` for the host localhost from 127.0.0.1.

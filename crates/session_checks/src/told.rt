@@ -1,10 +1,10 @@
 //! What is told of a session after its end.
 ghost use Rattle.std.specs.Prelude.{◌≡◌, ◌<◌, length};
 
-use balancer_core::{Desk, PlainDesk};
 use check_rows::telling::{part, put_bytes, put_plain, put_shown, put_word};
 use jk_io::{Bytes, NoMemory, PatientLink, Talk};
-use jk_model::{Asked, MemberRow, MemberState, Served, View};
+use lb_book::{Desk, PlainDesk};
+use lb_model::{Asked, MemberRow, MemberState, Served, View};
 use std::fmt::Write;
 
 /// Adds balancer and member of a talk, what was sent, and whether the link was kept.

@@ -2,7 +2,7 @@
 use Rattle.std.specs.Prelude.{ℕ, Bool, false, List, Option, Some, None, if◌then◌else◌, length, nat_lt}
 use Rattle.std.specs.Option.{is_some, option_map}
 use Rattle.std.specs.Str.{bytes_eq}
-use Rattle.jk_model.specs.Limits.{most_seconds}
+use Rattle.lb_model.specs.Limits.{most_seconds}
 use Rattle.site_config.specs.declared.directive.Directive.{Directive}
 use Rattle.site_config.specs.declared.directive.Directive.TheVariants as directive
 use Rattle.site_config.specs.declared.property.Property.{Property}

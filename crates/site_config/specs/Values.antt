@@ -5,10 +5,10 @@ use Rattle.std.specs.Option.{option_map}
 use Rattle.std.specs.List.{list_any, list_all}
 use Rattle.std.specs.Str.{bytes_eq}
 use Rattle.jk_io.specs.Decimals.{decimal_of}
-use Rattle.jk_model.specs.declared.member.Activation.{Activation}
-use Rattle.jk_model.specs.declared.member.Activation.TheVariants as activation
-use Rattle.jk_model.specs.declared.member.Method.{Method}
-use Rattle.jk_model.specs.declared.member.Method.TheVariants as method
+use Rattle.lb_model.specs.declared.member.Activation.{Activation}
+use Rattle.lb_model.specs.declared.member.Activation.TheVariants as activation
+use Rattle.lb_model.specs.declared.member.Method.{Method}
+use Rattle.lb_model.specs.declared.member.Method.TheVariants as method
 use Rattle.site_config.specs.declared.values.WorkerKind.{WorkerKind}
 use Rattle.site_config.specs.declared.values.WorkerKind.TheVariants as kind
 use Rattle.site_config.specs.Directives.{behind_worker}

@@ -3,7 +3,7 @@ ghost use Rattle.std.specs.Prelude.{◌≡◌, ◌<◌, length};
 
 use crate::endpoint::EndList;
 use jk_io::{Bytes, ListOf};
-use jk_model::LbConfig;
+use lb_model::LbConfig;
 
 /// A balancer: an lb worker, or an ajp13 worker that is listed itself.
 #[derive(Drop)]

@@ -3,7 +3,7 @@ ghost use Rattle.std.specs.Prelude.{◌≤◌};
 
 use crate::limits::MemberLimits;
 use jk_io::{Bytes, ListOf};
-use jk_model::FailList;
+use lb_model::FailList;
 
 /// How requests reach a member, and what its talks do.
 #[derive(Drop)]

@@ -1,13 +1,13 @@
 //! What the value of a line means, as its key takes it: each directive's range stands here alone.
 ghost use Rattle.std.specs.Prelude.{◌≡◌, ◌≤◌, IfSome};
 ghost use Rattle.site_config.specs.Meanings.{meaning_of, other_value, period_of, range_of, text_if, value_of};
-ghost use Rattle.jk_model.specs.declared.config.TheConstants.{MAX_PERIOD_SECONDS};
+ghost use Rattle.lb_model.specs.declared.config.TheConstants.{MAX_PERIOD_SECONDS};
 
 use crate::directive::{Directive, behind_worker};
 use crate::statuses::statuses_of;
 use crate::subject::Subject;
 use crate::values::{WorkerKind, activation_of, is_ping, kind_of, method_of, number_in, truth_of};
-use jk_model::{Activation, MAX_PERIOD_SECONDS, Method};
+use lb_model::{Activation, MAX_PERIOD_SECONDS, Method};
 
 /// What a value means.
 #[derive(Clone, Copy)]

@@ -5,7 +5,7 @@ ghost use Rattle.std.specs.List.{list_any, list_all};
 ghost use Rattle.site_config.specs.Values.{number_in, lower, is_word, says_yes, says_no, truth_of, kind_of, activation_of, method_of, is_ping_letter, is_ping, pings};
 
 use jk_io::parse_decimal;
-use jk_model::{Activation, Method};
+use lb_model::{Activation, Method};
 
 /// The type of a worker.
 #[derive(Clone, Copy)]

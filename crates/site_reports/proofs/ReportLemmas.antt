@@ -1,7 +1,7 @@
 -- What is printed of an accepted workers.properties.
 use Rattle.std.proofs.Common.{ℕ, List, Bool, Result, Ok, Err, IfOk, inr}
 use Rattle.site_config.specs.declared.config.Config.{Config}
-use Rattle.worker_props.specs.Site.{IsConfig}
+use Rattle.site_workers.specs.Site.{IsConfig}
 use Rattle.site_reports.specs.Reports.{OfWorkers}
 use Rattle.site_reports.specs.declared.report.Report.{Report}
 

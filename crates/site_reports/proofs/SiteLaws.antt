@@ -5,9 +5,9 @@ use Rattle.site_config.specs.Refusals.{LineRefusal}
 use Rattle.site_config.specs.declared.config.Config.{Config}
 use Rattle.site_reports.specs.ConfigText.{config_text}
 use Rattle.site_reports.specs.Reports.{OfMap, refusal_line, rules_line}
-use Rattle.uri_map.specs.Lines.{read_text}
-use Rattle.uri_map.specs.declared.rule.Rule.{Rule}
-use Rattle.worker_props.specs.Site.{IsConfig}
+use Rattle.site_mounts.specs.Lines.{read_text}
+use Rattle.site_mounts.specs.declared.rule.Rule.{Rule}
+use Rattle.site_workers.specs.Site.{IsConfig}
 use Rattle.site_reports.specs.Sites.{IsJudged, Judges}
 use Rattle.site_reports.specs.declared.reading.Judged.{Judged}
 use Rattle.site_reports.specs.declared.reading.Judged.TheVariants as judged

@@ -2,10 +2,10 @@
 use Rattle.std.proofs.Common.{ℕ, zero, suc, ◌≡◌, ◌+◌, ◌<◌, List, [], ◌∷◌, ◌++◌, get_or, length, map, slice_get, take, Some, sym, refl, ap, ◌∙◌, subst}
 use Rattle.std.proofs.lemmas.List.{take_more}
 use Rattle.std.proofs.lemmas.Slice.Zip.{all_zipped_more}
-use Rattle.jk_model.specs.declared.config.LbConfig.{LbConfig}
-use Rattle.balancer_core.specs.Journal.{IsStart, Journal}
-use Rattle.balancer_core.specs.PlainDesks.{AreModern}
-use Rattle.balancer_core.specs.ToldBooks.{sizes_of}
+use Rattle.lb_model.specs.declared.config.LbConfig.{LbConfig}
+use Rattle.lb_book.specs.Journal.{IsStart, Journal}
+use Rattle.lb_book.specs.PlainDesks.{AreModern}
+use Rattle.lb_book.specs.ToldBooks.{sizes_of}
 use Rattle.site_config.specs.declared.balancer.Lb.{Lb}
 use Rattle.site_reports.specs.Starts.{AreStarts}
 

@@ -2,7 +2,7 @@
 -- between two maintenances, and the keys that have no effect.
 use Rattle.std.specs.Prelude.{ℕ, Bool, true, false, List, [], ◌∷◌, ◌++◌, Option, Some, None, codes, decimal, slice_get, map, filter, if◌then◌else◌}
 use Rattle.std.specs.List.{flat_map, zip}
-use Rattle.jk_model.specs.declared.member.MemberConfig.{MemberConfig}
+use Rattle.lb_model.specs.declared.member.MemberConfig.{MemberConfig}
 use Rattle.site_config.specs.Directives.{behind_worker}
 use Rattle.site_config.specs.declared.balancer.Lb.{Lb}
 use Rattle.site_config.specs.declared.config.Config.{Config}

@@ -9,8 +9,8 @@ use Rattle.site_config.specs.declared.config.Config.{Config}
 use Rattle.site_config.specs.declared.config.Status.{Status}
 use Rattle.site_config.specs.declared.config.Named.{Named}
 use Rattle.site_config.specs.declared.config.Named.TheVariants as named
-use Rattle.uri_map.specs.declared.rule.Rule.{Rule}
-use Rattle.uri_map.specs.Mounts.{deciding_line, mount}
+use Rattle.site_mounts.specs.declared.rule.Rule.{Rule}
+use Rattle.site_mounts.specs.Mounts.{deciding_line, mount}
 use Rattle.site_reports.specs.PathLines.{path_lines}
 
 abbrev pub lb_name : Option Lb → List ℕ

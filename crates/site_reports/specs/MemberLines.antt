@@ -1,7 +1,7 @@
 -- The line of a member: how it is reached, its part of the balancer, and what its talks do.
 use Rattle.std.specs.Prelude.{ℕ, Bool, true, false, List, [], ◌∷◌, ◌++◌, Option, Some, None, codes, decimal, slice_index_or, map, if◌then◌else◌}
 use Rattle.std.specs.List.{flat_map}
-use Rattle.jk_model.specs.declared.member.MemberConfig.{MemberConfig}
+use Rattle.lb_model.specs.declared.member.MemberConfig.{MemberConfig}
 use Rattle.site_config.specs.declared.endpoint.Endpoint.{Endpoint}
 use Rattle.site_reports.specs.LimitLines.{limits_line}
 use Rattle.site_reports.specs.Words.{activation_words}

@@ -3,10 +3,10 @@
 use Rattle.std.specs.Prelude.{◌≡◌, ℕ, Bool, true, false, List, [], ◌∷◌, ◌++◌, ◌⊎◌, Result, Ok, Err, codes, decimal}
 use Rattle.site_config.specs.Refusals.{LineRefusal}
 use Rattle.site_config.specs.declared.config.Config.{Config}
-use Rattle.uri_map.specs.Lines.{read_text}
-use Rattle.uri_map.specs.Mounts.{line_count}
-use Rattle.uri_map.specs.declared.rule.Rule.{Rule}
-use Rattle.worker_props.specs.Site.{IsConfig, IsRefused}
+use Rattle.site_mounts.specs.Lines.{read_text}
+use Rattle.site_mounts.specs.Mounts.{line_count}
+use Rattle.site_mounts.specs.declared.rule.Rule.{Rule}
+use Rattle.site_workers.specs.Site.{IsConfig, IsRefused}
 use Rattle.site_reports.specs.ConfigText.{config_text}
 use Rattle.site_reports.specs.Matches.{match_text}
 use Rattle.site_reports.specs.Readings.{AreRead, CommandOutside, File, StopsLong}

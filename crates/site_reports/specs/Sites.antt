@@ -3,9 +3,9 @@ use Rattle.std.specs.Prelude.{◌≡◌, ℕ, true, List, [], ◌∷◌, Ok}
 use Rattle.site_reports.specs.Readings.{CommandOutside, File, AreRead}
 use Rattle.site_config.specs.declared.config.Config.{Config}
 use Rattle.site_reports.specs.Reports.{RefusesSite, ReportsSite}
-use Rattle.uri_map.specs.Lines.{read_text}
-use Rattle.uri_map.specs.declared.rule.Rule.{Rule}
-use Rattle.worker_props.specs.Site.{IsConfig}
+use Rattle.site_mounts.specs.Lines.{read_text}
+use Rattle.site_mounts.specs.declared.rule.Rule.{Rule}
+use Rattle.site_workers.specs.Site.{IsConfig}
 use Rattle.site_reports.specs.declared.reading.Judged.{Judged}
 use Rattle.site_reports.specs.declared.reading.Judged.TheVariants as judged
 

@@ -1,9 +1,9 @@
 -- How single values are printed.
 use Rattle.std.specs.Prelude.{ℕ, Bool, List, [], ◌∷◌, ◌++◌, Option, Some, None, codes, decimal, slice_index_or, if◌then◌else◌}
-use Rattle.jk_model.specs.declared.member.Activation.{Activation}
-use Rattle.jk_model.specs.declared.member.Activation.TheVariants as activation
-use Rattle.jk_model.specs.declared.member.Method.{Method}
-use Rattle.jk_model.specs.declared.member.Method.TheVariants as method
+use Rattle.lb_model.specs.declared.member.Activation.{Activation}
+use Rattle.lb_model.specs.declared.member.Activation.TheVariants as activation
+use Rattle.lb_model.specs.declared.member.Method.{Method}
+use Rattle.lb_model.specs.declared.member.Method.TheVariants as method
 
 abbrev pub method_letter : Method → List ℕ
 method_letter method.Request = codes "R"

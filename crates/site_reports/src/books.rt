@@ -2,9 +2,9 @@
 ghost use Rattle.std.specs.Prelude.{◌≡◌, ◌≤◌, length, map, IfOk};
 ghost use Rattle.site_reports.specs.Starts.{AreStarts};
 
-use balancer_core::{Book, BookList};
 use jk_io::{NoMemory, SizeList};
-use jk_model::MOST_NUMBERS;
+use lb_book::{Book, BookList};
+use lb_model::MOST_NUMBERS;
 use site_config::Lb;
 use std::alloc::Global;
 

@@ -9,8 +9,8 @@ use crate::words::put_number;
 use http_front::{PathError, clean_path};
 use jk_io::{Bytes, NoMemory};
 use site_config::{Config, Named, cut_at};
+use site_mounts::UriMap;
 use std::alloc::Global;
-use uri_map::UriMap;
 
 fn worker_name(config: &Config, worker: Option<Named>) -> &[u8]
     ensures { result.now ≡ worker_name config.now worker }

@@ -6,7 +6,7 @@ ghost use Rattle.site_reports.specs.MemberLines.{fail_words, member_line, member
 use crate::limits_line::put_limits;
 use crate::words::{activation_words, put_number, put_text};
 use jk_io::{Bytes, NoMemory, put_decimal};
-use jk_model::MemberConfig;
+use lb_model::MemberConfig;
 use site_config::Endpoint;
 
 fn name_at(members: &[MemberConfig], place: Option<u32>) -> &[u8]

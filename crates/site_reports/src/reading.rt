@@ -8,9 +8,9 @@ ghost use Rattle.site_reports.specs.Sites.{IsJudged, Judges};
 
 use crate::site::ReadSite;
 use jk_io::{Bytes, FileError, Files, IoError, NoMemory, put_decimal};
+use site_mounts::{MapError, read_map};
+use site_workers::{PropsError, read_workers};
 use std::alloc::Global;
-use uri_map::{MapError, read_map};
-use worker_props::{PropsError, read_workers};
 
 /// What the files of a site are: a site, or the line that refuses them.
 #[derive(Drop)]

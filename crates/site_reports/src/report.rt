@@ -1,7 +1,7 @@
 //! What a command prints of a site's files.
 ghost use Rattle.std.specs.Prelude.{◌≡◌, ◌++◌, ◌≤◌, length, false, IfOk, OnOk};
 ghost use Rattle.site_config.specs.Refusals.{LineRefusal};
-ghost use Rattle.uri_map.specs.Lines.{read_text};
+ghost use Rattle.site_mounts.specs.Lines.{read_text};
 ghost use Rattle.site_reports.specs.ConfigText.{config_text};
 ghost use Rattle.site_reports.specs.Matches.{match_text};
 ghost use Rattle.site_reports.specs.Reports.{OfMap, Refuses, ReportsConfig, ReportsMatches, ReportsSite, rules_line};
@@ -12,9 +12,9 @@ use crate::match_text::put_matches;
 use crate::words::put_number;
 use jk_io::{Bytes, NoMemory};
 use site_config::Config;
+use site_mounts::{MapError, UriMap, read_map};
+use site_workers::{PropsError, read_workers};
 use std::alloc::Global;
-use uri_map::{MapError, UriMap, read_map};
-use worker_props::{PropsError, read_workers};
 
 /// What a command prints, and whether that is the refusal of a file.
 #[derive(Drop)]

@@ -1,9 +1,9 @@
 //! A site whose files were read.
 ghost use Rattle.std.specs.Prelude.{◌≡◌, true};
-ghost use Rattle.uri_map.specs.Sites.{stands_in};
+ghost use Rattle.site_mounts.specs.Sites.{stands_in};
 
 use site_config::Config;
-use uri_map::UriMap;
+use site_mounts::UriMap;
 
 /// The balancers and status workers of a site, and where they are mounted.
 #[derive(Drop)]

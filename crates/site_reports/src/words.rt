@@ -3,7 +3,7 @@ ghost use Rattle.std.specs.Prelude.{◌≡◌, ◌++◌, OnOk, decimal};
 ghost use Rattle.site_reports.specs.Words.{activation_words, method_letter, truth_digit};
 
 use jk_io::{Bytes, NoMemory, put_decimal};
-use jk_model::{Activation, Method};
+use lb_model::{Activation, Method};
 
 pub(crate) fn method_letter(method: Method) -> &'static [u8]
     ensures { result.now ≡ method_letter method }

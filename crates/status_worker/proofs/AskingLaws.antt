@@ -9,8 +9,8 @@ use Rattle.std.proofs.lemmas.Fmt.{decimal_is_IsNumeral, length-decimal-le}
 use Rattle.percent_encoding.specs.declared.ascii_set.AsciiSet.{AsciiSet}
 use Rattle.jk_io.proofs.DecimalLaws.{SomeIff-decimal_of}
 use Rattle.jk_io.specs.Decimals.{decimal_of}
-use Rattle.jk_model.specs.declared.member.Activation.{Activation}
-use Rattle.jk_model.specs.declared.member.Activation.TheVariants as activation
+use Rattle.lb_model.specs.declared.member.Activation.{Activation}
+use Rattle.lb_model.specs.declared.member.Activation.TheVariants as activation
 use Rattle.status_worker.specs.declared.command.NamedRedirect.{NamedRedirect}
 use Rattle.status_worker.specs.declared.command.NamedRedirect.TheVariants as redirect
 use Rattle.status_worker.specs.declared.command.StatusCommand.{StatusCommand}

@@ -3,15 +3,15 @@ use Rattle.std.proofs.Common.{◌≡◌, ℕ, List, [], ◌∷◌, ◌++◌, Res
 use Rattle.std.proofs.lemmas.List.{append_assoc, append-nil, length-append}
 use Rattle.std.proofs.lemmas.List.Elements.{All-append, All-nil}
 use Rattle.std.specs.List.{All}
-use Rattle.jk_model.specs.declared.change.Command.{Command}
-use Rattle.jk_model.specs.declared.journal.Call.TheVariants as call
-use Rattle.jk_model.specs.declared.refusal.AdminError.{AdminError}
-use Rattle.jk_model.specs.declared.refusal.FullMark.{FullMark}
-use Rattle.jk_model.specs.declared.refusal.Stray.{Stray}
-use Rattle.balancer_core.proofs.ReturnedLaws.{due_returned, have_returned-append, last_returned, none_out}
-use Rattle.balancer_core.specs.Returned.{HaveReturned}
-use Rattle.balancer_core.specs.Desks.{Commands, DeskState, Gains, KeepsDesk, MeetsNone, RefusesCommand}
-use Rattle.balancer_core.specs.declared.receipt.Receipt.{Receipt}
+use Rattle.lb_model.specs.declared.change.Command.{Command}
+use Rattle.lb_model.specs.declared.journal.Call.TheVariants as call
+use Rattle.lb_model.specs.declared.refusal.AdminError.{AdminError}
+use Rattle.lb_model.specs.declared.refusal.FullMark.{FullMark}
+use Rattle.lb_model.specs.declared.refusal.Stray.{Stray}
+use Rattle.lb_book.proofs.ReturnedLaws.{due_returned, have_returned-append, last_returned, none_out}
+use Rattle.lb_book.specs.Returned.{HaveReturned}
+use Rattle.lb_book.specs.Desks.{Commands, DeskState, Gains, KeepsDesk, MeetsNone, RefusesCommand}
+use Rattle.lb_book.specs.declared.receipt.Receipt.{Receipt}
 use Rattle.status_worker.specs.Desks.{KeepsTickets}
 
 pub untouched : (session : ℕ) (desk : DeskState) → KeepsTickets session desk desk

@@ -3,7 +3,7 @@ use Rattle.std.proofs.Common.{◌≡◌, OnOk, Result, ℕ, ◌+◌, List, [], �
 use Rattle.std.proofs.lemmas.List.{append_assoc, length-take-le, take_all}
 use Rattle.std.proofs.lemmas.Option.{slice_get_read}
 use Rattle.status_worker.proofs.CommandLaws.{next_taken}
-use Rattle.balancer_core.specs.Desks.{DeskState}
+use Rattle.lb_book.specs.Desks.{DeskState}
 use Rattle.site_config.specs.declared.balancer.Lb.{Lb}
 use Rattle.site_config.specs.declared.config.Config.{Config}
 use Rattle.status_worker.specs.declared.page.PagePart.{PagePart}

@@ -1,16 +1,16 @@
 -- A refused command with a desk's own marks, told with their numbers.
 use Rattle.std.proofs.Common.{◌≡◌, ℕ, List, ◌⊎◌, refl, inl, inr, ap, ◌∙◌}
-use Rattle.jk_model.specs.declared.change.Command.{Command}
-use Rattle.jk_model.specs.declared.refusal.AdminError.{AdminError}
-use Rattle.jk_model.specs.declared.refusal.AdminError.TheVariants as admin
-use Rattle.jk_model.specs.declared.refusal.FullMark.{FullMark}
-use Rattle.jk_model.specs.declared.refusal.RoomError.{RoomError}
-use Rattle.jk_model.specs.declared.refusal.RoomError.TheVariants as room
-use Rattle.balancer_core.specs.Desks.{DeskState, GainsDue, IsCommandRefusal, IsCounted, RefusesCommand, refused_first}
-use Rattle.balancer_core.specs.Journal.{Journal}
-use Rattle.balancer_core.specs.Refused.{RefusesChange, RefusesMaintain}
-use Rattle.balancer_core.specs.ToldBooks.{grown_by}
-use Rattle.balancer_core.specs.declared.receipt.Receipt.{Receipt}
+use Rattle.lb_model.specs.declared.change.Command.{Command}
+use Rattle.lb_model.specs.declared.refusal.AdminError.{AdminError}
+use Rattle.lb_model.specs.declared.refusal.AdminError.TheVariants as admin
+use Rattle.lb_model.specs.declared.refusal.FullMark.{FullMark}
+use Rattle.lb_model.specs.declared.refusal.RoomError.{RoomError}
+use Rattle.lb_model.specs.declared.refusal.RoomError.TheVariants as room
+use Rattle.lb_book.specs.Desks.{DeskState, GainsDue, IsCommandRefusal, IsCounted, RefusesCommand, refused_first}
+use Rattle.lb_book.specs.Journal.{Journal}
+use Rattle.lb_book.specs.Refused.{RefusesChange, RefusesMaintain}
+use Rattle.lb_book.specs.ToldBooks.{grown_by}
+use Rattle.lb_book.specs.declared.receipt.Receipt.{Receipt}
 use Rattle.status_worker.specs.Commanding.{no_page_by}
 use Rattle.status_worker.specs.Commands.{same_mark}
 

@@ -2,9 +2,9 @@
 use Rattle.std.specs.Prelude.{ℕ, List, [], ◌∷◌, length, map, Option, Some, None}
 use Rattle.std.specs.List.{range_with_len}
 use Rattle.std.specs.Option.{option_map}
-use Rattle.jk_model.specs.declared.change.Command.{Command}
-use Rattle.jk_model.specs.declared.change.Command.TheVariants as command
-use Rattle.jk_model.specs.declared.member.MemberConfig.{MemberConfig}
+use Rattle.lb_model.specs.declared.change.Command.{Command}
+use Rattle.lb_model.specs.declared.change.Command.TheVariants as command
+use Rattle.lb_model.specs.declared.member.MemberConfig.{MemberConfig}
 use Rattle.status_worker.specs.declared.command.NamedChange.{NamedChange}
 use Rattle.status_worker.specs.declared.command.StatusCommand.{StatusCommand}
 use Rattle.status_worker.specs.declared.command.StatusCommand.TheVariants as asked

@@ -1,9 +1,9 @@
 -- The ways out of a status worker's commands.
 use Rattle.std.specs.Prelude.{ℕ, ◌≡◌, List, Option}
-use Rattle.jk_model.specs.declared.change.Command.{Command}
-use Rattle.jk_model.specs.declared.refusal.AdminError.{AdminError}
-use Rattle.jk_model.specs.declared.refusal.AdminError.TheVariants as admin
-use Rattle.jk_model.specs.declared.refusal.FullMark.{FullMark}
+use Rattle.lb_model.specs.declared.change.Command.{Command}
+use Rattle.lb_model.specs.declared.refusal.AdminError.{AdminError}
+use Rattle.lb_model.specs.declared.refusal.AdminError.TheVariants as admin
+use Rattle.lb_model.specs.declared.refusal.FullMark.{FullMark}
 use Rattle.site_config.specs.declared.config.Config.{Config}
 use Rattle.site_config.specs.declared.config.Status.{Status}
 use Rattle.status_worker.specs.Commands.{IsBroken, IsDone, RefusesOne, StopsAt, TurnsAway}

@@ -1,11 +1,11 @@
 -- What a status worker's request asks of the desk.
 use Rattle.std.specs.Prelude.{ℕ, ◌≡◌, ◌⊎◌, Bool, true, false, List, [], ◌∷◌, ◌++◌, Option, Some, None, slice_get}
 use Rattle.jk_io.specs.Answers.{Answers}
-use Rattle.jk_model.specs.declared.change.Command.{Command}
-use Rattle.jk_model.specs.declared.refusal.AdminError.{AdminError}
-use Rattle.jk_model.specs.declared.refusal.AdminError.TheVariants as admin
-use Rattle.jk_model.specs.declared.refusal.FullMark.{FullMark}
-use Rattle.balancer_core.specs.Desks.{Commands, MeetsNone, RefusesCommand}
+use Rattle.lb_model.specs.declared.change.Command.{Command}
+use Rattle.lb_model.specs.declared.refusal.AdminError.{AdminError}
+use Rattle.lb_model.specs.declared.refusal.AdminError.TheVariants as admin
+use Rattle.lb_model.specs.declared.refusal.FullMark.{FullMark}
+use Rattle.lb_book.specs.Desks.{Commands, MeetsNone, RefusesCommand}
 use Rattle.site_config.specs.Places.{named_among}
 use Rattle.site_config.specs.declared.balancer.Lb.{Lb}
 use Rattle.site_config.specs.declared.config.Config.{Config}

@@ -1,11 +1,11 @@
 -- The desk of a session and its clock, and what the desk keeps over a session's calls.
 use Rattle.std.specs.Prelude.{ℕ, ◌≡◌, ◌+◌, ◌≤◌, List, ◌++◌, length, map, Option, Some, None}
 use Rattle.std.specs.List.{All}
-use Rattle.jk_model.specs.declared.refusal.Stray.{Stray}
-use Rattle.balancer_core.specs.Desks.{DeskState}
-use Rattle.balancer_core.specs.Returned.{HaveReturned}
-use Rattle.balancer_core.specs.ToldBooks.{AreSound}
-use Rattle.balancer_core.specs.declared.receipt.Receipt.{Receipt}
+use Rattle.lb_model.specs.declared.refusal.Stray.{Stray}
+use Rattle.lb_book.specs.Desks.{DeskState}
+use Rattle.lb_book.specs.Returned.{HaveReturned}
+use Rattle.lb_book.specs.ToldBooks.{AreSound}
+use Rattle.lb_book.specs.declared.receipt.Receipt.{Receipt}
 use Rattle.site_config.specs.declared.balancer.Lb.{Lb}
 
 -- The desk, and the answers that the clock is to give.

@@ -1,9 +1,9 @@
 -- The form in a row of the table: its fields are those of an update with the member's own values, and each button sends a command.
 use Rattle.std.specs.Prelude.{ℕ, ◌++◌, Bool, List, [], Option, Some, None, codes, decimal, slice_index_or, if◌then◌else◌}
 use Rattle.std.specs.Str.{bytes_eq}
-use Rattle.jk_model.specs.declared.member.Activation.{Activation}
-use Rattle.jk_model.specs.declared.member.Activation.TheVariants as activation
-use Rattle.jk_model.specs.declared.view.MemberRow.{MemberRow}
+use Rattle.lb_model.specs.declared.member.Activation.{Activation}
+use Rattle.lb_model.specs.declared.member.Activation.TheVariants as activation
+use Rattle.lb_model.specs.declared.view.MemberRow.{MemberRow}
 use Rattle.status_worker.specs.declared.page.PagePart.{PagePart}
 use Rattle.status_worker.specs.Marks.{html_text}
 use Rattle.status_worker.specs.Page.{names_of}

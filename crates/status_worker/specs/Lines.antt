@@ -1,6 +1,6 @@
 -- How many lines a page has.
 use Rattle.std.specs.Prelude.{◌≡◌, ℕ, ◌+◌, ◌<◌, ◌^◌, ◌==◌, false, List, length, count_by, All}
-use Rattle.jk_model.specs.declared.view.MemberRow.{MemberRow}
+use Rattle.lb_model.specs.declared.view.MemberRow.{MemberRow}
 use Rattle.status_worker.specs.declared.page.PagePart.{PagePart}
 
 -- the line ends of a text

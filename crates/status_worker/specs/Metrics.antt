@@ -2,7 +2,7 @@
 use Rattle.std.specs.Prelude.{ℕ, ◌++◌, Bool, List, codes, decimal, if◌then◌else◌}
 use Rattle.std.specs.List.{flat_map}
 use Rattle.std.specs.Str.{bytes_eq}
-use Rattle.jk_model.specs.declared.view.MemberRow.{MemberRow}
+use Rattle.lb_model.specs.declared.view.MemberRow.{MemberRow}
 use Rattle.status_worker.specs.declared.metrics.Metric.{Metric}
 use Rattle.status_worker.specs.declared.metrics.Metric.TheVariants as metric
 use Rattle.status_worker.specs.declared.page.PagePart.{PagePart}

@@ -1,7 +1,7 @@
 -- The page of a status worker.
 use Rattle.std.specs.Prelude.{ℕ, List, ◌++◌, Option, Some, None, codes, decimal, length, map, slice_index_or}
 use Rattle.std.specs.List.{flat_map}
-use Rattle.jk_model.specs.declared.view.MemberRow.{MemberRow}
+use Rattle.lb_model.specs.declared.view.MemberRow.{MemberRow}
 use Rattle.status_worker.specs.declared.page.PagePart.{PagePart}
 use Rattle.status_worker.specs.Words.{type_word, method_letter, activation_letter, state_word}
 

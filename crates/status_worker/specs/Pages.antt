@@ -1,6 +1,6 @@
 -- The reply with a status worker's page.
 use Rattle.std.specs.Prelude.{ℕ, ◌≡◌, ◌+◌, ◌++◌, Bool, not, List, [], ◌∷◌, length, map, Option, Some, None, slice_get, codes, decimal, if◌then◌else◌}
-use Rattle.balancer_core.specs.Desks.{DeskState, Shows}
+use Rattle.lb_book.specs.Desks.{DeskState, Shows}
 use Rattle.http_out.specs.Dates.{date_field}
 use Rattle.http_out.specs.declared.framing.RequestKind.{RequestKind}
 use Rattle.site_config.specs.declared.balancer.Lb.{Lb}

@@ -1,7 +1,7 @@
 -- The page as HTML: for each balancer a table with a row for each member, and a form in each row where changes may be made.
 use Rattle.std.specs.Prelude.{ℕ, ◌++◌, Bool, List, [], codes, decimal, if◌then◌else◌}
 use Rattle.std.specs.List.{flat_map, zip}
-use Rattle.jk_model.specs.declared.view.MemberRow.{MemberRow}
+use Rattle.lb_model.specs.declared.view.MemberRow.{MemberRow}
 use Rattle.status_worker.specs.declared.page.Address.{Address}
 use Rattle.status_worker.specs.declared.page.PagePart.{PagePart}
 use Rattle.status_worker.specs.Form.{member_form}

@@ -2,10 +2,10 @@
 use Rattle.std.specs.Prelude.{ℕ, Bool, List, Option, Some, position}
 use Rattle.std.specs.Option.{option_map}
 use Rattle.std.specs.Str.{bytes_eq}
-use Rattle.jk_model.specs.declared.change.Change.{Change}
-use Rattle.jk_model.specs.declared.change.Redirect.{Redirect}
-use Rattle.jk_model.specs.declared.change.Redirect.TheVariants as redirect
-use Rattle.jk_model.specs.declared.member.MemberConfig.{MemberConfig}
+use Rattle.lb_model.specs.declared.change.Change.{Change}
+use Rattle.lb_model.specs.declared.change.Redirect.{Redirect}
+use Rattle.lb_model.specs.declared.change.Redirect.TheVariants as redirect
+use Rattle.lb_model.specs.declared.member.MemberConfig.{MemberConfig}
 use Rattle.status_worker.specs.declared.command.NamedChange.{NamedChange}
 use Rattle.status_worker.specs.declared.command.NamedRedirect.{NamedRedirect}
 use Rattle.status_worker.specs.declared.command.NamedRedirect.TheVariants as named

@@ -2,8 +2,8 @@
 use Rattle.std.specs.Prelude.{ℕ, Bool, ◌==◌, ◌||◌, nat_le, nat_lt, List, [], ◌∷◌, length, Option, Some, None, is_some, if◌then◌else◌}
 use Rattle.std.specs.Option.{option_map, option_and_then}
 use Rattle.jk_io.specs.Decimals.{decimal_of}
-use Rattle.jk_model.specs.declared.member.Activation.{Activation}
-use Rattle.jk_model.specs.declared.member.Activation.TheVariants as activation
+use Rattle.lb_model.specs.declared.member.Activation.{Activation}
+use Rattle.lb_model.specs.declared.member.Activation.TheVariants as activation
 use Rattle.status_worker.specs.declared.command.NamedRedirect.{NamedRedirect}
 use Rattle.status_worker.specs.declared.command.NamedRedirect.TheVariants as redirect
 use Rattle.status_worker.specs.declared.command.NamedChange.{NamedChange}

@@ -1,11 +1,11 @@
 -- How single values stand on the page.
 use Rattle.std.specs.Prelude.{ℕ, List, codes}
-use Rattle.jk_model.specs.declared.member.Activation.{Activation}
-use Rattle.jk_model.specs.declared.member.Activation.TheVariants as activation
-use Rattle.jk_model.specs.declared.member.Method.{Method}
-use Rattle.jk_model.specs.declared.member.Method.TheVariants as method
-use Rattle.jk_model.specs.declared.state.MemberState.{MemberState}
-use Rattle.jk_model.specs.declared.state.MemberState.TheVariants as state
+use Rattle.lb_model.specs.declared.member.Activation.{Activation}
+use Rattle.lb_model.specs.declared.member.Activation.TheVariants as activation
+use Rattle.lb_model.specs.declared.member.Method.{Method}
+use Rattle.lb_model.specs.declared.member.Method.TheVariants as method
+use Rattle.lb_model.specs.declared.state.MemberState.{MemberState}
+use Rattle.lb_model.specs.declared.state.MemberState.TheVariants as state
 use Rattle.status_worker.specs.declared.page.BalancerType.{BalancerType}
 use Rattle.status_worker.specs.declared.page.BalancerType.TheVariants as kind
 

@@ -7,7 +7,7 @@ use crate::member_line::put_member;
 use crate::page::PagePart;
 use crate::words::{method_letter, put_number, put_word, type_word};
 use jk_io::{Bytes, NoMemory};
-use jk_model::MemberRow;
+use lb_model::MemberRow;
 
 fn put_balancer(out: &mut Bytes, part: &PagePart) -> Result<(), NoMemory>
     ensures { OnOk result (out.new ≡ out.old ++ balancer_line part.now) }

@@ -5,7 +5,7 @@ ghost use Rattle.status_worker.specs.BookCommands.{alone, commands_for, recover_
 use crate::command::{NamedChange, StatusCommand};
 use crate::targets::{change_for, member_named};
 use jk_io::{ListOf, NoMemory};
-use jk_model::{Command, LbConfig};
+use lb_model::{Command, LbConfig};
 use std::alloc::Global;
 
 /// Commands for a balancer's Book, in order.

@@ -1,6 +1,6 @@
 //! The commands of a status worker, with the names of balancers and members as the query gives them.
 use jk_io::Bytes;
-use jk_model::Activation;
+use lb_model::Activation;
 
 /// What an update does with a member's redirect.
 #[derive(Drop)]

@@ -1,6 +1,6 @@
 //! Doing a status worker's commands.
 ghost use Rattle.std.specs.Prelude.{◌≡◌, ◌<◌, length, IfErr, IfSome, IfOk, OnOk};
-ghost use Rattle.balancer_core.specs.Desks.{MeetsNone};
+ghost use Rattle.lb_book.specs.Desks.{MeetsNone};
 ghost use Rattle.status_worker.specs.Commands.{Does, WorksOn};
 ghost use Rattle.status_worker.specs.Commanding.{FailsFor, FailsOne, FailsWork, IsDoneFor, no_page_by};
 ghost use Rattle.status_worker.specs.Desks.{KeepsTickets, desk_side, members_in};
@@ -8,9 +8,9 @@ ghost use Rattle.status_worker.specs.Desks.{KeepsTickets, desk_side, members_in}
 use crate::asking::{NoPage, Work, work_of};
 use crate::refusal::PageRefusal;
 use crate::request::PageRequest;
-use balancer_core::Desk;
 use jk_io::Clock;
-use jk_model::{AdminError, Command};
+use lb_book::Desk;
+use lb_model::{AdminError, Command};
 use std::alloc::Global;
 
 /// What a command's refusal makes of the request.

@@ -21,7 +21,7 @@ use crate::marks::put_html;
 use crate::page::PagePart;
 use crate::words::{activation_letter, activation_word};
 use jk_io::{Bytes, NoMemory, put_decimal};
-use jk_model::{Activation, MemberRow};
+use lb_model::{Activation, MemberRow};
 
 fn put_hidden(out: &mut Bytes, name: &[u8], value: &[u8]) -> Result<(), NoMemory>
     ensures { OnOk result (out.new ≡ out.old ++ hidden_field name.now value.now) }

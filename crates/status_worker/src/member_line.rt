@@ -4,7 +4,7 @@ ghost use Rattle.status_worker.specs.Page.{name_at, names_of, standing_words, we
 
 use crate::words::{activation_letter, put_number, put_word, state_word};
 use jk_io::{Bytes, NoMemory};
-use jk_model::MemberRow;
+use lb_model::MemberRow;
 
 /// The name of the member at a place, `-` for none.
 pub(crate) fn name_at(rows: &[MemberRow], place: Option<u32>) -> &[u8]

@@ -29,7 +29,7 @@ use crate::marks::put_label;
 use crate::page::PagePart;
 use crate::words::{activation_word, state_word};
 use jk_io::{Bytes, NoMemory, put_decimal};
-use jk_model::MemberRow;
+use lb_model::MemberRow;
 
 /// A family of figures, one or more of each member.
 #[derive(Clone, Copy)]

@@ -11,7 +11,7 @@ use crate::metrics::put_metrics_page;
 use crate::mime::Mime;
 use crate::table::put_html_page;
 use jk_io::{Bytes, ListOf, NoMemory};
-use jk_model::{Method, View};
+use lb_model::{Method, View};
 use std::alloc::Global;
 
 /// What a balancer stands for.

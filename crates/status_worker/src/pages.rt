@@ -19,10 +19,10 @@ ghost use Rattle.status_worker.specs.Pages.{
 
 use crate::request::PageRequest;
 use crate::{Address, AddressList, BalancerType, Mime, PageList, PagePart, read_mime, render_as};
-use balancer_core::Desk;
 use http_out::{RequestKind, put_date};
 use jk_io::{Bytes, ListOf, NoMemory, put_decimal};
-use jk_model::View;
+use lb_book::Desk;
+use lb_model::View;
 use site_config::{Config, Endpoint, Lb};
 use std::alloc::Global;
 

@@ -26,7 +26,7 @@ use crate::member_line::name_at;
 use crate::page::{Address, PagePart};
 use crate::words::{activation_word, method_letter, state_phrase, type_word};
 use jk_io::{Bytes, NoMemory, put_decimal};
-use jk_model::MemberRow;
+use lb_model::MemberRow;
 
 fn put_text_cell(out: &mut Bytes, text: &[u8]) -> Result<(), NoMemory>
     ensures { OnOk result (out.new ≡ out.old ++ text_cell text.now) }

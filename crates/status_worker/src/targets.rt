@@ -3,7 +3,7 @@ ghost use Rattle.std.specs.Prelude.{◌≡◌, ◌<◌, IfSome, length};
 ghost use Rattle.status_worker.specs.Targets.{change_for, is_called, member_named, redirect_for};
 
 use crate::command::{NamedChange, NamedRedirect};
-use jk_model::{Change, LbConfig, MemberConfig, Redirect};
+use lb_model::{Change, LbConfig, MemberConfig, Redirect};
 
 fn is_called(name: &[u8], member: &MemberConfig) -> bool
     ensures { result ≡ is_called name.now member.now }

@@ -5,7 +5,7 @@ ghost use Rattle.status_worker.specs.Values.{activation_of, short_number, redire
 use crate::command::{NamedChange, NamedRedirect};
 use crate::texts::ChangeTexts;
 use jk_io::{Bytes, parse_decimal};
-use jk_model::Activation;
+use lb_model::Activation;
 
 /// An activation by its first letter, in either case.
 fn activation_of(text: &[u8]) -> Option<Activation>

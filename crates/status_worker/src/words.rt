@@ -11,7 +11,7 @@ ghost use Rattle.status_worker.specs.Words.{
 
 use crate::page::BalancerType;
 use jk_io::{Bytes, NoMemory, put_decimal};
-use jk_model::{Activation, MemberState, Method};
+use lb_model::{Activation, MemberState, Method};
 
 pub(crate) fn type_word(type_: BalancerType) -> &'static [u8]
     ensures { result.now ≡ type_word type_ }

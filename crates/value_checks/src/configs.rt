@@ -2,7 +2,7 @@
 
 use check_lines::texts::{long, put_given, put_number, short};
 use jk_io::{Bytes, NoMemory};
-use jk_model::{
+use lb_model::{
     Activation, ConfigError, FailList, LbConfig, MemberConfig, MemberList, Method, RowList, Terms,
     View,
 };

@@ -5,7 +5,7 @@ use check_lines::begin::{is_opening_line, opening_of};
 use check_lines::judging::{Teller, judge_lines};
 use check_lines::texts::{first_word, given, long, put_line, say, short, words_of};
 use jk_io::{Bytes, NoMemory};
-use jk_model::{MemberRow, Opening};
+use lb_model::{MemberRow, Opening};
 use std::alloc::Global;
 
 /// A row of openings as far as it is taken.

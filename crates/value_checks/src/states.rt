@@ -2,7 +2,7 @@
 
 use check_lines::texts::{long, put_number};
 use jk_io::{Bytes, NoMemory};
-use jk_model::{Activation, Kind, MemberState};
+use lb_model::{Activation, Kind, MemberState};
 use lb_rules::{Touch, next_state};
 
 fn counted_state(word: &str, number: &str) -> Option<MemberState> {

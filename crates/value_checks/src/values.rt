@@ -6,7 +6,7 @@ use crate::states::tell_state;
 use check_lines::judging::{Teller, judge_lines};
 use check_lines::texts::{long, put_number, short, words_of};
 use jk_io::{Bytes, NoMemory, put_decimal};
-use jk_model::{Method, halve, lcm_of};
+use lb_model::{Method, halve, lcm_of};
 use lb_rules::{gain_return, gain_select, unit_of};
 use std::alloc::Global;
 

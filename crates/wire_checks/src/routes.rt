@@ -8,7 +8,7 @@ use check_rows::telling::{part, put_bytes, put_count, put_shown, put_word};
 use forwarding::{IdList, MethodKind, forward_packet, may_retry, routed, session_ids};
 use http_front::{BodyPlan, Head, HeadLines};
 use jk_io::{Bytes, ListOf, NoMemory, Peer};
-use jk_model::{Activation, MemberConfig, MemberList};
+use lb_model::{Activation, MemberConfig, MemberList};
 use site_config::{Endpoint, MemberLimits};
 use std::alloc::Global;
 use std::fmt::Write;

@@ -4,9 +4,9 @@ ghost use Rattle.jk_server.specs.declared.orders.container.TheConstants.{MOST_RO
 ghost use Rattle.jk_server.specs.Commands.{ContainsAsked, WorksContainer};
 
 use crate::orders::ends::{CommandEnd, NO_MEMORY, end_by, end_of_container};
+use ajp_container::AppConfig;
 use gear_parts::{ContainerRun, GearOrder, ToldWorld, World, contain_gears, give_back, take_gears};
 use jk_io::{Bytes, Door, NoMemory};
-use mini_container::AppConfig;
 use std::alloc::Global;
 use std::marker::Brand;
 use std::sync::Wait;

@@ -4,10 +4,10 @@ ghost use Rattle.jk_server.specs.Ends.{end_by, end_of_closing, end_of_container,
 
 use crate::part::WorkerEnd;
 use crate::runs::ends::Closing;
+use ajp_container::ContainerWorker;
 use jk_io::IoError;
-use locked_balancer::SiteStray;
-use mini_container::ContainerWorker;
-use site_closing::Discord;
+use lb_closing::Discord;
+use lb_shared::SiteStray;
 
 /// The status of a command that did what it was asked.
 pub(crate) const DONE: u8 = 0;

@@ -1,16 +1,16 @@
 //! The closing of a connector's run. The desks are closed, and what the journals still keep goes to the first shelf.
 ghost use Rattle.std.specs.Prelude.{◌≡◌, ◌<◌, ◌≤◌, length, map, sum_by, vec_len};
 ghost use Rattle.std.specs.List.{All};
-ghost use Rattle.locked_balancer.specs.Locks.{lock_of};
-ghost use Rattle.jk_model.specs.declared.config.TheConstants.{MAX_BALANCERS};
+ghost use Rattle.lb_shared.specs.Locks.{lock_of};
+ghost use Rattle.lb_model.specs.declared.config.TheConstants.{MAX_BALANCERS};
 ghost use Rattle.jk_server.specs.Shelved.{EndsByBooks, EndsSo};
 
 use crate::part::{Ran, WorkerEndList};
 use crate::runs::ends::{Closing, SiteRun};
 use gear_parts::{Gear, keep_on_first};
 use jk_io::IoError;
-use locked_balancer::{Leaving, SharedSite, Shelf, SiteName};
-use site_closing::{CloseError, Closed, LeavingList, close_own_desks};
+use lb_closing::{CloseError, Closed, LeavingList, close_own_desks};
+use lb_shared::{Leaving, SharedSite, Shelf, SiteName};
 use std::sync::Wait;
 
 /// Closes the desks of a run, and keeps what the journals still have on the first gear's shelf.

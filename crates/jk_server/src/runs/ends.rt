@@ -1,7 +1,7 @@
 //! How a run ends, and what comes back of it.
 
 use crate::part::WorkerEndList;
-use site_closing::Discord;
+use lb_closing::Discord;
 
 /// How the closing of a run ended, once all workers had.
 #[derive(Drop)]

@@ -2,8 +2,8 @@
 ghost use Rattle.std.specs.Prelude.{◌<◌};
 ghost use Rattle.std.specs.Option.{ForSome};
 
-use balancer_core::BookList;
 use conn_pool::Watch;
+use lb_book::BookList;
 use std::sync::ledger::Blank;
 
 /// A Site that isn't open yet.

@@ -3,8 +3,8 @@ ghost use Rattle.std.specs.Prelude.{◌≡◌, ◌≤◌, true, vec_len, IfOk};
 ghost use Rattle.std.specs.List.{All};
 ghost use Rattle.conn_pool.specs.Idle.{counts};
 ghost use Rattle.exchange.specs.Requests.{sizes_of};
-ghost use Rattle.locked_balancer.specs.Locks.{lock_of};
-ghost use Rattle.uri_map.specs.Sites.{stands_in};
+ghost use Rattle.lb_shared.specs.Locks.{lock_of};
+ghost use Rattle.site_mounts.specs.Sites.{stands_in};
 ghost use Rattle.jk_server.specs.ServedGears.{IsRunOf};
 ghost use Rattle.jk_server.specs.RunTells.{run_tells};
 
@@ -13,14 +13,14 @@ use crate::workers::{MAX_WORKERS, empty_slots, fill_slots, room_for, serve_slots
 use conn_pool::Tape;
 use gear_parts::{Common, Gear};
 use jk_io::{Clock, Dial, Door, NoMemory};
-use locked_balancer::{Leaving, Shelf, SiteName};
+use lb_shared::{Leaving, Shelf, SiteName};
 use request_log::{Format, Timed};
 use site_config::Config;
+use site_mounts::UriMap;
 use std::alloc::Global;
 use std::sync::Wait;
 use std::sync::ledger::Share;
 use std::thread::Threads;
-use uri_map::UriMap;
 
 /// How idle links are looked after.
 #[derive(Clone, Copy)]

@@ -1,19 +1,19 @@
 //! The log of one session over memory.
 ghost use Rattle.std.specs.Prelude.{◌≡◌, ◌≤◌, length, true, false, IfOk};
 ghost use Rattle.jk_io.specs.declared.whole_input.TheConstants.{MAX_INPUT_BYTES};
-ghost use Rattle.uri_map.specs.Lines.{read_text};
-ghost use Rattle.uri_map.specs.Sites.{stands_in};
+ghost use Rattle.site_mounts.specs.Lines.{read_text};
+ghost use Rattle.site_mounts.specs.Sites.{stands_in};
 ghost use Rattle.plain_commands.specs.Dry.{Logs, OfRules, ReportsLog};
 
 use crate::session::report::{Site, Wire, refused, with_reach};
 use jk_io::NoMemory;
 use request_log::{Format, log_text};
 use site_config::Config;
+use site_mounts::{MapError, read_map};
 use site_reports::Report;
+use site_workers::{PropsError, read_workers};
 use std::alloc::Global;
 use std::marker::Brand;
-use uri_map::{MapError, read_map};
-use worker_props::{PropsError, read_workers};
 
 // The log of a session over this site.
 fn of_site(

@@ -3,8 +3,8 @@ ghost use Rattle.std.specs.Prelude.{◌≡◌, ◌≤◌, length, true, false, c
 ghost use Rattle.jk_io.specs.declared.whole_input.TheConstants.{MAX_INPUT_BYTES};
 ghost use Rattle.site_config.specs.Refusals.{LineRefusal};
 ghost use Rattle.site_reports.specs.Reports.{Refuses};
-ghost use Rattle.uri_map.specs.Lines.{read_text};
-ghost use Rattle.uri_map.specs.Sites.{stands_in};
+ghost use Rattle.site_mounts.specs.Lines.{read_text};
+ghost use Rattle.site_mounts.specs.Sites.{stands_in};
 ghost use Rattle.plain_commands.specs.Dry.{Dries, IsDryRun, OfRules, ReportsDry, Runs};
 ghost use Rattle.plain_commands.specs.DryLines.{dry_text, end_words};
 ghost use Rattle.plain_commands.specs.DryStarts.{IsFirstClient, IsFirstDesk, IsFirstReach};
@@ -13,17 +13,17 @@ use crate::plain::let_go;
 use crate::session::lines::{lines_of, put_number, words_of};
 use crate::session::one_reply::{OneReply, ReplyName, link_of};
 use crate::session::start::{desk_of, reach_of};
-use balancer_core::PlainDesk;
 use client_session::{SessionEnd, SessionSite, Surroundings, serve_session};
 use http_front::Inbox;
 use jk_io::{Bytes, MemLink, NoMemory, NumberList, Peer, StepClock};
-use jk_model::ServedList;
+use lb_book::PlainDesk;
+use lb_model::ServedList;
 use site_config::Config;
+use site_mounts::{MapError, UriMap, read_map};
 use site_reports::Report;
+use site_workers::{PropsError, read_workers};
 use std::alloc::Global;
 use std::marker::Brand;
-use uri_map::{MapError, UriMap, read_map};
-use worker_props::{PropsError, read_workers};
 
 /// The workers.properties of a site whose files aren't named: one worker that is listed itself, with retries 1.
 pub(crate) const DEFAULT_WORKERS: &[u8] = b"worker.list=w1\nworker.w1.retries=1\n";

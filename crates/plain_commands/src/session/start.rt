@@ -3,8 +3,8 @@ ghost use Rattle.std.specs.Prelude.{◌≡◌, IfOk};
 ghost use Rattle.plain_commands.specs.DryStarts.{IsFirstDesk, IsFirstReach};
 
 use crate::session::one_reply::{OneReply, ReplyName};
-use balancer_core::PlainDesk;
 use jk_io::NoMemory;
+use lb_book::PlainDesk;
 use site_config::Lb;
 use site_reports::{books_of, member_counts};
 use std::alloc::Global;

@@ -1,6 +1,6 @@
 -- The command leaves no Maintain due, and the look leaves all as it is.
 use Rattle.std.proofs.Common.{ap, subst, sym, ◌∙◌}
-use Rattle.balancer_core.specs.Desks.{DeskState, KeepsDesk}
+use Rattle.lb_book.specs.Desks.{DeskState, KeepsDesk}
 use Rattle.check_lines.specs.Once.{GainsAsMany, IsUpToDate}
 use Rattle.check_lines.proofs.DueLaws.{commanded_up_to_date}
 use Rattle.check_lines.proofs.OnceLaws.{gains_as_many, page_after}

@@ -1,7 +1,7 @@
 -- The ticket that the choice made is the one that came back.
 use Rattle.std.proofs.Common.{ℕ, ◌<◌, List, length, ap, subst, sym}
-use Rattle.balancer_core.specs.Desks.{LeaseNote, pair_of}
-use Rattle.balancer_core.proofs.DeskLaws.{held_again, held_made}
+use Rattle.lb_book.specs.Desks.{LeaseNote, pair_of}
+use Rattle.lb_book.proofs.DeskLaws.{held_again, held_made}
 use Rattle.check_lines.proofs.DueLaws.{chosen_up_to_date, returned_up_to_date, stray_up_to_date}
 use Rattle.check_lines.proofs.OnceLaws.{ends_refused, ends_returned, ends_stray, gains_as_many, gains_none, gains_twice, keeps_twice}
 use Rattle.check_lines.proofs.callers.one_exchange.Goals as goal

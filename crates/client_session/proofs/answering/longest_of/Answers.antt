@@ -3,7 +3,7 @@ use Rattle.std.proofs.Common.{◌≡◌, ◌≤◌, ◌<◌, ◌+◌, ℕ, List,
 use Rattle.std.specs.List.{All}
 use Rattle.std.proofs.lemmas.List.{take_all}
 use Rattle.std.proofs.lemmas.List.Elements.{All-push}
-use Rattle.jk_model.specs.declared.member.MemberConfig.{MemberConfig}
+use Rattle.lb_model.specs.declared.member.MemberConfig.{MemberConfig}
 use Rattle.status_worker.proofs.CommandLaws.{next_taken}
 use Rattle.client_session.proofs.answering.longest_of.Goals.{then-longest-len, else-longest-len}
 use Rattle.client_session.proofs.answering.longest_of.Goals as goal

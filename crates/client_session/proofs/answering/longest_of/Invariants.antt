@@ -1,7 +1,7 @@
 -- The names of the members so far.
 use Rattle.std.proofs.Common.{◌≤◌, length, take}
 use Rattle.std.specs.List.{All}
-use Rattle.jk_model.specs.declared.member.MemberConfig.{MemberConfig}
+use Rattle.lb_model.specs.declared.member.MemberConfig.{MemberConfig}
 use Rattle.client_session.proofs.answering.longest_of.Given as goal
 
 abbrev pub invariant-loop-member : goal.invariant-loop-member

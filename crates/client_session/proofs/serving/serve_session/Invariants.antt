@@ -1,6 +1,6 @@
 -- Requests were served, and the next one is to be read; at most 1,000 are.
 use Rattle.std.proofs.Common.{◌≡◌, ◌<◌, ◌-◌, []}
-use Rattle.balancer_core.specs.Desks.{MeetsNone}
+use Rattle.lb_book.specs.Desks.{MeetsNone}
 use Rattle.client_session.specs.Keeping.{KeepsAround}
 use Rattle.client_session.specs.Requests.{visit_of}
 use Rattle.client_session.specs.Surroundings.{Gains, standing_of, standing_with}

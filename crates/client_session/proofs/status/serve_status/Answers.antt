@@ -1,6 +1,6 @@
 -- The commands were done or refused, and then a page or a refusal was written, or a front of it.
 use Rattle.std.proofs.Common.{refl, sym, subst, ◌∙◌}
-use Rattle.balancer_core.specs.Desks.{DeskState, MeetsNone}
+use Rattle.lb_book.specs.Desks.{DeskState, MeetsNone}
 use Rattle.status_worker.specs.Desks.{KeepsTickets, desk_side}
 use Rattle.client_session.specs.Requests.{visit_in}
 use Rattle.client_session.specs.Standings.{client_at}

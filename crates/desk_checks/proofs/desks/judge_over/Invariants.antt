@@ -1,7 +1,7 @@
 -- The Site's name is the Book's.
 use Rattle.std.specs.Prelude.{[], ◌∷◌}
-use Rattle.jk_model.specs.Journal.{members}
-use Rattle.balancer_core.specs.Journal.{next_number}
+use Rattle.lb_model.specs.Journal.{members}
+use Rattle.lb_book.specs.Journal.{next_number}
 use Rattle.desk_checks.proofs.desks.judge_over.Given as goal
 
 abbrev pub ghosts-judge-L-Ledger : goal.ghosts-judge-L-Ledger

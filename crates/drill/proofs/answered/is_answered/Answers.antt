@@ -1,7 +1,7 @@
 use Rattle.std.proofs.Common.{suc, List, ◌++◌, take, drop, sym, subst, ap, ◌∙◌, arith}
 use Rattle.std.proofs.Math.Seq.{drop-cons}
 use Rattle.std.proofs.lemmas.List.{take_more, take-append-drop}
-use Rattle.jk_model.specs.declared.journal.Entry.{Entry}
+use Rattle.lb_model.specs.declared.journal.Entry.{Entry}
 use Rattle.drill.specs.Drills.{AreAnswered, entries_of}
 use Rattle.drill.specs.Progress.{IsSoFar}
 use Rattle.drill.proofs.answered.is_answered.Goals as goal

@@ -1,7 +1,7 @@
 -- One pass after the other comes out.
 use Rattle.std.proofs.Common.{◌≡◌, List, [], ap, arith, length, refl, subst, sym}
-use Rattle.pass_desk.specs.Placed.{AreEachBack}
-use Rattle.pass_desk.specs.declared.pass.Pass.{Pass}
+use Rattle.lb_passes.specs.Placed.{AreEachBack}
+use Rattle.lb_passes.specs.declared.pass.Pass.{Pass}
 use Rattle.drill.proofs.PassLaws.{back_put, no_more, none_put, one_put}
 use Rattle.drill.proofs.BodyLaws.{none_together, one_together}
 use Rattle.drill.proofs.pass_slots.empty_slots.Goals as goal

@@ -1,7 +1,7 @@
 -- The passes so far, and room for the others.
 use Rattle.std.proofs.Common.{◌≡◌, ◌+◌, ◌≤◌, ◌++◌, length, fold, map}
 use Rattle.std.specs.Prelude.{vec_capacity, vec_len}
-use Rattle.pass_desk.specs.Placed.{AreEachBack}
+use Rattle.lb_passes.specs.Placed.{AreEachBack}
 use Rattle.drill.specs.Bodies.{all_together, together}
 use Rattle.drill.proofs.pass_slots.empty_slots.Given as goal
 

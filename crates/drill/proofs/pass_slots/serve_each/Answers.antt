@@ -1,6 +1,6 @@
 -- Each slot keeps its number, and has what its thread made, through the slice.
 use Rattle.std.proofs.Common.{◌∙◌, ℕ, List, ap, map, subst, sym}
-use Rattle.pass_desk.specs.Placed.{AreFrom}
+use Rattle.lb_passes.specs.Placed.{AreFrom}
 use Rattle.drill.proofs.CountLaws.{made_lent, made_numbered}
 use Rattle.drill.proofs.PassLaws.{numbers_lent, written_back}
 use Rattle.drill.proofs.pass_slots.serve_each.Goals as goal

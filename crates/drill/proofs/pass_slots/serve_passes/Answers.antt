@@ -2,8 +2,8 @@
 use Rattle.std.proofs.Common.{◌∙◌, List, arith, subst, sym}
 use Rattle.std.proofs.lemmas.List.{length-map}
 use Rattle.drill.proofs.CountLaws.{drill_counts}
-use Rattle.pass_desk.specs.Placed.{AreBack}
-use Rattle.pass_desk.specs.declared.pass.Pass.{Pass}
+use Rattle.lb_passes.specs.Placed.{AreBack}
+use Rattle.lb_passes.specs.declared.pass.Pass.{Pass}
 use Rattle.drill.proofs.PassLaws.{passes_back}
 use Rattle.drill.proofs.pass_slots.serve_passes.Goals as goal
 

@@ -1,6 +1,6 @@
 -- A slot for one pass after the other.
 use Rattle.std.proofs.Common.{◌≡◌, ◌∙◌, ℕ, ap, arith, length, subst, sym}
-use Rattle.pass_desk.proofs.PlacedLaws.{AreNext, new_back, new_next}
+use Rattle.lb_passes.proofs.PlacedLaws.{AreNext, new_back, new_next}
 use Rattle.drill.proofs.PassLaws.{next_first, next_put, numbers_put}
 use Rattle.drill.proofs.pass_slots.slots_for.Goals as goal
 

@@ -1,8 +1,8 @@
 -- A slot for each pass so far, in order, and room for the others.
 use Rattle.std.proofs.Common.{◌≡◌, ◌+◌, ◌≤◌, length, map}
 use Rattle.std.specs.Prelude.{vec_capacity, vec_len}
-use Rattle.pass_desk.specs.Placed.{AreFrom}
-use Rattle.pass_desk.proofs.PlacedLaws.{AreNext}
+use Rattle.lb_passes.specs.Placed.{AreFrom}
+use Rattle.lb_passes.proofs.PlacedLaws.{AreNext}
 use Rattle.drill.proofs.pass_slots.slots_for.Given as goal
 
 abbrev pub invariant-passes : goal.invariant-passes

@@ -1,7 +1,7 @@
 -- No desk forgot, so there are as many receipts as the shares say.
 use Rattle.std.proofs.Common.{length, ◌∙◌}
-use Rattle.locked_balancer.specs.declared.mem_shelf.MemShelf.{MemShelf}
-use Rattle.locked_balancer.specs.declared.shared_desk.Leaving.{Leaving}
+use Rattle.lb_shared.specs.declared.mem_shelf.MemShelf.{MemShelf}
+use Rattle.lb_shared.specs.declared.shared_desk.Leaving.{Leaving}
 use Rattle.drill.proofs.ClosingLaws.{all_receipts}
 use Rattle.drill.proofs.running.close_books.Goals as goal
 

@@ -1,7 +1,7 @@
 -- The Site's name: the ledger of the blank, and the Book that is put under it.
-use Rattle.balancer_core.specs.ToldBooks.{sizes_of}
-use Rattle.locked_balancer.specs.Histories.{starts_of}
-use Rattle.locked_balancer.specs.Sites.{nexts_of}
+use Rattle.lb_book.specs.ToldBooks.{sizes_of}
+use Rattle.lb_shared.specs.Histories.{starts_of}
+use Rattle.lb_shared.specs.Sites.{nexts_of}
 use Rattle.drill.proofs.running.drilled_book.Given as goal
 
 abbrev pub ghosts-drill_in-L-Ledger : goal.ghosts-drill_in-L-Ledger

@@ -1,8 +1,8 @@
 -- The passes belong to the one table, and all of them are back.
 use Rattle.std.proofs.Common.{◌∙◌, ap, sym}
-use Rattle.jk_model.specs.Journal.{members}
-use Rattle.pass_desk.proofs.PlacedLaws.{all_back, new_origin, new_table}
-use Rattle.pass_desk.specs.declared.pass_view.Origin.{Origin}
+use Rattle.lb_model.specs.Journal.{members}
+use Rattle.lb_passes.proofs.PlacedLaws.{all_back, new_origin, new_table}
+use Rattle.lb_passes.specs.declared.pass_view.Origin.{Origin}
 use Rattle.drill.proofs.PassLaws.{belong, closed_drill, closed_there}
 use Rattle.drill.proofs.running.passed_book.Goals as goal
 

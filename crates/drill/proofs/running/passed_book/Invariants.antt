@@ -1,6 +1,6 @@
 -- Where the passes of the drill belong: what the first one knows.
-use Rattle.pass_desk.specs.PassDesks.{table_of}
-use Rattle.pass_desk.specs.Placed.{no_table, origin_in, table_in_passes}
+use Rattle.lb_passes.specs.PassDesks.{table_of}
+use Rattle.lb_passes.specs.Placed.{no_table, origin_in, table_in_passes}
 use Rattle.drill.proofs.running.passed_book.Given as goal
 
 abbrev pub ghosts-serve_in_turns : goal.ghosts-serve_in_turns

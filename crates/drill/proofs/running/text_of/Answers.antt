@@ -1,6 +1,6 @@
 use Rattle.std.proofs.Common.{◌≡◌, List, subst}
 use Rattle.std.specs.Prelude.{IfOk, IfSome, codes}
-use Rattle.jk_model.specs.declared.journal.Entry.{Entry}
+use Rattle.lb_model.specs.declared.journal.Entry.{Entry}
 use Rattle.journal_text.specs.SegmentText.{segment_text}
 use Rattle.drill.specs.Summaries.{IsJournalText, summary_text}
 use Rattle.drill.proofs.ClosingLaws.{some_weaker}

@@ -2,8 +2,8 @@ use Rattle.std.proofs.Common.{◌≡◌, [], ◌∷◌, length, sym, ap, ◌∙�
 use Rattle.std.proofs.lemmas.List.{length-append}
 use Rattle.std.proofs.lemmas.List.Elements.{All-head, All-push, All-rest, All-same}
 use Rattle.std.proofs.lemmas.List.Sums.{sum_by_push}
-use Rattle.locked_balancer.specs.declared.mem_shelf.MemShelf.{MemShelf}
-use Rattle.locked_balancer.specs.declared.shared_desk.Leaving.{Leaving}
+use Rattle.lb_shared.specs.declared.mem_shelf.MemShelf.{MemShelf}
+use Rattle.lb_shared.specs.declared.shared_desk.Leaving.{Leaving}
 use Rattle.drill.specs.Threads.{IsWhole}
 use Rattle.drill.specs.declared.slots.Slot.{Slot}
 use Rattle.drill.proofs.BodyLaws.{none_together, one_together}

@@ -1,7 +1,7 @@
 -- The first piece was taken and rounds were gone through; or there was none. Each exit is one of the ends of an exchange.
 use Rattle.ajp_wire.specs.Moments.{link_at}
 use Rattle.std.proofs.Common.{ℕ, List, slice_index, refl, sym, ap, ◌∙◌, arith}
-use Rattle.jk_model.specs.declared.ask.Ask.{Ask}
+use Rattle.lb_model.specs.declared.ask.Ask.{Ask}
 use Rattle.exchange.specs.Requests.{ask_for, errand_of}
 use Rattle.exchange.proofs.CalmLaws.{calm_at}
 use Rattle.exchange.proofs.CauseLaws.{met_at}

@@ -1,7 +1,7 @@
 -- What the desk answered; talks were held on the member, and its lease went back.
 use Rattle.std.proofs.Common.{◌≡◌, ℕ, Option, IfSome, refl, sym, ap, subst, arith}
-use Rattle.balancer_core.proofs.DeskLaws.{held_made}
-use Rattle.balancer_core.specs.Desks.{pair_of}
+use Rattle.lb_book.proofs.DeskLaws.{held_made}
+use Rattle.lb_book.specs.Desks.{pair_of}
 use Rattle.exchange.specs.Means.{around_of}
 use Rattle.exchange.specs.Requests.{errand_of}
 use Rattle.exchange.proofs.DeskLaws.{after_none}

@@ -1,5 +1,5 @@
 -- The moment at which the session begins: which desk it is, its seat, its receipts and its shelf then.
-use Rattle.locked_balancer.specs.Loans.{name_in, seat_in, shelf_in, state_in}
+use Rattle.lb_shared.specs.Loans.{name_in, seat_in, shelf_in, state_in}
 use Rattle.jk_server.proofs.client.serve_seated.Given as goal
 
 abbrev pub ghosts-serve_lent : goal.ghosts-serve_lent

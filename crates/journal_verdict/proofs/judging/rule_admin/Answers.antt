@@ -1,6 +1,6 @@
 use Rattle.std.proofs.Common.{◌+◌, ◌^◌, ◌<◌, arith}
-use Rattle.balancer_core.specs.Journal.{next_number, tickets_out}
-use Rattle.jk_model.specs.declared.journal.Call.TheVariants as call
+use Rattle.lb_book.specs.Journal.{next_number, tickets_out}
+use Rattle.lb_model.specs.declared.journal.Call.TheVariants as call
 use Rattle.journal_verdict.specs.declared.ruling.Ruling.TheVariants as ruling
 use Rattle.journal_verdict.proofs.JudgeFacts.{refused_so, ruled_answer}
 use Rattle.journal_verdict.proofs.judging.rule_admin.Goals as goal

@@ -1,4 +1,4 @@
-use Rattle.jk_model.specs.declared.journal.Call.TheVariants as call
+use Rattle.lb_model.specs.declared.journal.Call.TheVariants as call
 use Rattle.journal_verdict.specs.declared.ruling.Ruling.TheVariants as ruling
 use Rattle.journal_verdict.proofs.JudgeFacts.{not_true, refused_so, ruled_answer}
 use Rattle.journal_verdict.proofs.judging.rule_return.Goals as goal

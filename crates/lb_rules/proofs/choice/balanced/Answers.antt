@@ -1,8 +1,8 @@
 use Rattle.std.proofs.Common.{refl, ap, ◌∙◌, length, Some}
-use Rattle.jk_model.specs.Choice.{begin_after}
-use Rattle.jk_model.specs.States.{is_balanced}
-use Rattle.jk_model.specs.declared.journal.Answer.TheVariants as answer
-use Rattle.jk_model.specs.declared.journal.How.TheVariants as How
+use Rattle.lb_model.specs.Choice.{begin_after}
+use Rattle.lb_model.specs.States.{is_balanced}
+use Rattle.lb_model.specs.declared.journal.Answer.TheVariants as answer
+use Rattle.lb_model.specs.declared.journal.How.TheVariants as How
 use Rattle.lb_rules.specs.declared.among.Among.TheVariants as Among
 use Rattle.lb_rules.specs.Least.{IsLeastRow, IsRevivalOf}
 use Rattle.lb_rules.specs.RuleNumbers.{rules_number}

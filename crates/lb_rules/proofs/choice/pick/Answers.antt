@@ -1,5 +1,5 @@
 use Rattle.std.proofs.Common.{sym, ap, ◌∙◌}
-use Rattle.jk_model.specs.States.{is_balanced}
+use Rattle.lb_model.specs.States.{is_balanced}
 use Rattle.lb_rules.specs.RuleNumbers.{rules_number}
 use Rattle.lb_rules.specs.Picks.{home_of, serves_at, redirect_at}
 use Rattle.lb_rules.proofs.PickLaws.{picked, routed_chosen, route-unbalanced, revives-other}

@@ -1,5 +1,5 @@
 -- Where the two passes belong: what the first one knows.
-use Rattle.pass_desk.specs.Placed.{origin_in, table_in_passes}
+use Rattle.lb_passes.specs.Placed.{origin_in, table_in_passes}
 use Rattle.pass_checks.proofs.notes.tell_kept.Given as goal
 
 abbrev pub ghosts-meet_in : goal.ghosts-meet_in

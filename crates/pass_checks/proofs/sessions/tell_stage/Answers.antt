@@ -1,9 +1,9 @@
 -- The passes of the one book, which know of its one member, and that both came back.
 use Rattle.std.proofs.Common.{◌∙◌, ap, arith}
-use Rattle.jk_model.specs.Journal.{members}
+use Rattle.lb_model.specs.Journal.{members}
 use Rattle.pass_checks.proofs.NoteLaws.{belong, both_back, place_of}
-use Rattle.pass_desk.proofs.PlacedLaws.{new_origin}
-use Rattle.pass_desk.specs.declared.pass_view.Origin.{Origin}
+use Rattle.lb_passes.proofs.PlacedLaws.{new_origin}
+use Rattle.lb_passes.specs.declared.pass_view.Origin.{Origin}
 use Rattle.pass_checks.proofs.sessions.tell_stage.Goals as goal
 
 pub over_list-requires-clause-book : goal.over_list-requires-clause-book

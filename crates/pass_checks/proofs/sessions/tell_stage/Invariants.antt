@@ -1,5 +1,5 @@
 -- Where the two passes belong: what the first one knows.
-use Rattle.pass_desk.specs.Placed.{origin_in, table_in_passes}
+use Rattle.lb_passes.specs.Placed.{origin_in, table_in_passes}
 use Rattle.pass_checks.proofs.sessions.tell_stage.Given as goal
 
 abbrev pub ghosts-over_list : goal.ghosts-over_list

@@ -1,5 +1,5 @@
 use Rattle.std.proofs.Common.{suc, ◌+◌, ◌≡◌, ◌++◌, ◌∷◌, length, sym, subst, ap, arith}
-use Rattle.balancer_core.specs.Journal.{past_of}
+use Rattle.lb_book.specs.Journal.{past_of}
 use Rattle.play_script.specs.Play.{Runs}
 use Rattle.plain_commands.proofs.TurnLemmas.{goes_on, goes_on_runs, comes_to_end, comes_to_stop}
 use Rattle.plain_commands.proofs.play.run.Goals as goal

@@ -1,5 +1,5 @@
 use Rattle.std.proofs.Common.{ℕ, ◌≡◌, ◌+◌, ◌≤◌, ◌<◌, ◌^◌, ◌++◌, ◌∷◌, List, length}
-use Rattle.balancer_core.specs.Journal.{past_of}
+use Rattle.lb_book.specs.Journal.{past_of}
 use Rattle.play_script.specs.Play.{Runs}
 use Rattle.plain_commands.specs.Turns.{IsPlayed}
 use Rattle.plain_commands.proofs.play.run.Given as goal

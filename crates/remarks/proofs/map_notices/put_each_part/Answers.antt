@@ -1,7 +1,7 @@
 use Rattle.std.proofs.Common.{◌==◌, ℕ, List, ◌++◌, sym, ◌∙◌, ap, append_assoc, append-nil}
 use Rattle.site_config.proofs.CutLemmas.{cut_shorter}
 use Rattle.remarks.specs.MapNotices.{part_notice}
-use Rattle.uri_map.proofs.PartLemmas.{pieces_cut, pieces_one}
+use Rattle.site_mounts.proofs.PartLemmas.{pieces_cut, pieces_one}
 use Rattle.remarks.proofs.NoticeLemmas.{on_ok}
 use Rattle.remarks.proofs.map_notices.put_each_part.Goals as goal
 

@@ -1,7 +1,7 @@
 use Rattle.std.proofs.Common.{◌≡◌, ◌++◌, length}
 use Rattle.std.specs.List.{flat_map}
 use Rattle.remarks.specs.MapNotices.{part_notice}
-use Rattle.uri_map.specs.Parts.{pieces_of}
+use Rattle.site_mounts.specs.Parts.{pieces_of}
 use Rattle.remarks.proofs.map_notices.put_each_part.Given as goal
 
 -- the notices so far, in front of those of the rest

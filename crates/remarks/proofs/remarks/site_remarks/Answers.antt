@@ -1,6 +1,6 @@
 use Rattle.std.proofs.Common.{◌++◌, refl, inl, inr}
 use Rattle.site_config.specs.Refusals.{LineRefusal}
-use Rattle.worker_props.specs.Site.{IsConfig, IsRefused}
+use Rattle.site_workers.specs.Site.{IsConfig, IsRefused}
 use Rattle.remarks.specs.Remarks.{AreRemarks, as_file, map_remarks, maps_of, workers_refusals, workers_remarks}
 use Rattle.remarks.proofs.AddedLemmas.{adds_said}
 use Rattle.remarks.proofs.remarks.site_remarks.Goals as goal

@@ -1,4 +1,4 @@
-use Rattle.uri_map.specs.Lines.{read_text}
+use Rattle.site_mounts.specs.Lines.{read_text}
 use Rattle.site_reports.specs.Matches.{match_text}
 use Rattle.site_reports.specs.Reports.{OfMap}
 use Rattle.site_reports.proofs.ReportLemmas.{of_accepted}

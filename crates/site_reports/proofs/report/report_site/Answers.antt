@@ -1,5 +1,5 @@
 use Rattle.std.proofs.Common.{◌++◌}
-use Rattle.uri_map.specs.Lines.{read_text}
+use Rattle.site_mounts.specs.Lines.{read_text}
 use Rattle.site_reports.specs.ConfigText.{config_text}
 use Rattle.site_reports.specs.Reports.{OfMap, rules_line}
 use Rattle.site_reports.proofs.ReportLemmas.{of_accepted}

@@ -1,7 +1,7 @@
 use Rattle.std.proofs.Common.{◌++◌, ◌∷◌, [], List, ap, sym, ◌∙◌, arith}
 use Rattle.std.proofs.lemmas.List.FromFn.{map-range_with_len_more}
-use Rattle.jk_model.specs.declared.change.Command.{Command}
-use Rattle.jk_model.specs.declared.change.Command.TheVariants as command
+use Rattle.lb_model.specs.declared.change.Command.{Command}
+use Rattle.lb_model.specs.declared.change.Command.TheVariants as command
 use Rattle.status_worker.proofs.book_commands.resets.Goals as goal
 
 pub loop-member-preserved : goal.loop-member-preserved

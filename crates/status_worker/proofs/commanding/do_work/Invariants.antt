@@ -1,6 +1,6 @@
 -- The commands before this one were done.
 use Rattle.std.proofs.Common.{take}
-use Rattle.balancer_core.specs.Desks.{MeetsNone}
+use Rattle.lb_book.specs.Desks.{MeetsNone}
 use Rattle.status_worker.specs.Commands.{DoesAll}
 use Rattle.status_worker.specs.Desks.{KeepsTickets, desk_side}
 use Rattle.status_worker.proofs.commanding.do_work.Given as goal

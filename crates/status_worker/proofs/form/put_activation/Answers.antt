@@ -1,6 +1,6 @@
 -- The three options between the field's ends.
 use Rattle.std.proofs.Common.{codes}
-use Rattle.jk_model.specs.declared.member.Activation.TheVariants as activation
+use Rattle.lb_model.specs.declared.member.Activation.TheVariants as activation
 use Rattle.status_worker.specs.Form.{activation_option}
 use Rattle.status_worker.proofs.PutLaws.{put_five}
 use Rattle.status_worker.proofs.form.put_activation.Goals as goal

@@ -1,6 +1,6 @@
 -- The fields and the buttons between the form's ends.
 use Rattle.std.proofs.Common.{List, ◌++◌, codes, ap, ◌∙◌}
-use Rattle.jk_model.specs.declared.view.MemberRow.{MemberRow}
+use Rattle.lb_model.specs.declared.view.MemberRow.{MemberRow}
 use Rattle.status_worker.specs.Form.{buttons, target_fields, value_fields}
 use Rattle.status_worker.specs.Page.{names_of}
 use Rattle.status_worker.proofs.PutLaws.{put_five}

@@ -4,7 +4,7 @@ use Rattle.std.proofs.lemmas.List.{append-nil}
 use Rattle.std.specs.Iterator.Adapters.{zip_first, zip_second}
 use Rattle.std.specs.List.{zip}
 use Rattle.std.specs.Slice.Iter.{iter_rest}
-use Rattle.jk_model.specs.declared.view.MemberRow.{MemberRow}
+use Rattle.lb_model.specs.declared.view.MemberRow.{MemberRow}
 use Rattle.status_worker.specs.declared.page.Address.{Address}
 use Rattle.status_worker.proofs.table.put_rows.Goals as goal
 

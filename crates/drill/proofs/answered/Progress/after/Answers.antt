@@ -1,5 +1,5 @@
 use Rattle.std.proofs.Common.{ℕ, List, [], ◌∷◌, ◌++◌, Option, IfSome, sym, subst}
-use Rattle.jk_model.specs.declared.journal.Entry.{Entry}
+use Rattle.lb_model.specs.declared.journal.Entry.{Entry}
 use Rattle.drill.specs.Progress.{IsSoFar}
 use Rattle.drill.proofs.answered.Progress.after.Goals as goal
 

@@ -9,7 +9,7 @@ use Rattle.jk_io.specs.Doors.{side}
 use Rattle.conn_pool.specs.Idle.{counts}
 use Rattle.conn_pool.specs.Reaches.{beside_of}
 use Rattle.conn_pool.proofs.SendLaws.{watched_send}
-use Rattle.locked_balancer.specs.Locks.{lock_of}
+use Rattle.lb_shared.specs.Locks.{lock_of}
 use Rattle.request_log.specs.declared.format.Part.{Part as FormatPart}
 use Rattle.gear_parts.specs.GearLogs.{broken_by}
 use Rattle.gear_parts.specs.GearParts.{start_of, unnumbered}

@@ -1,6 +1,6 @@
 -- The Site's name: the ledger of the blank, the balancers of the configuration, and the cut.
 use Rattle.exchange.specs.Requests.{sizes_of}
-use Rattle.locked_balancer.specs.Histories.{starts_of}
+use Rattle.lb_shared.specs.Histories.{starts_of}
 use Rattle.jk_server.specs.Headline.{firsts_of}
 use Rattle.jk_server.proofs.runs.serve.serve_gears.Given as goal
 

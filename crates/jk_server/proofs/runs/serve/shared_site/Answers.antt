@@ -1,8 +1,8 @@
 use Rattle.std.proofs.Common.{◌≡◌, List, [], ap, sym, subst, ◌∙◌, arith}
 use Rattle.std.specs.List.{All}
-use Rattle.balancer_core.specs.Journal.{Journal}
-use Rattle.locked_balancer.specs.Histories.{starts_of}
-use Rattle.locked_balancer.specs.Sites.{At}
+use Rattle.lb_book.specs.Journal.{Journal}
+use Rattle.lb_shared.specs.Histories.{starts_of}
+use Rattle.lb_shared.specs.Sites.{At}
 use Rattle.site_reports.proofs.StartLaws.{starts_modern, starts_sizes}
 use Rattle.jk_server.proofs.BookLaws.{new_added, new_count, new_empty, new_fresh, new_nexts}
 use Rattle.jk_server.proofs.runs.serve.shared_site.Goals as goal

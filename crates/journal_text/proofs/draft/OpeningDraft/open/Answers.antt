@@ -1,6 +1,6 @@
 use Rattle.std.proofs.Common.{refl, subst, IsTrue, arith}
-use Rattle.jk_model.specs.Validity.{IsOpening}
-use Rattle.jk_model.specs.declared.opening.Opening.{Opening}
+use Rattle.lb_model.specs.Validity.{IsOpening}
+use Rattle.lb_model.specs.declared.opening.Opening.{Opening}
 use Rattle.journal_text.specs.Openings.{IsOpened}
 use Rattle.journal_text.proofs.OpeningFacts.{refused_none}
 use Rattle.journal_text.proofs.ReadingLaws.{same_opening}

@@ -1,5 +1,5 @@
 use Rattle.std.proofs.Common.{List, length, subst}
-use Rattle.jk_model.specs.Choice.{begin_after}
+use Rattle.lb_model.specs.Choice.{begin_after}
 use Rattle.lb_rules.proofs.IndexLaws.{least_of}
 use Rattle.lb_rules.specs.Kept.{weights_now}
 use Rattle.lb_rules.specs.Weights.{IsLeastOfSet, IsLightest}

@@ -1,4 +1,4 @@
-use Rattle.uri_map.specs.Lines.{read_text}
+use Rattle.site_mounts.specs.Lines.{read_text}
 use Rattle.site_reports.proofs.ReportLemmas.{of_accepted}
 use Rattle.plain_commands.specs.Dry.{Logs, OfRules}
 use Rattle.plain_commands.proofs.session.log_report.report_log.Goals as goal

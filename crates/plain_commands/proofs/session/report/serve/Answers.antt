@@ -1,7 +1,7 @@
 use Rattle.std.proofs.Common.{◌≡◌, false, true, List, [], ℕ, Some, refl, ap, sym, ◌++◌, ◌∙◌}
 use Rattle.jk_io.specs.Memory.{MemLinkState}
 use Rattle.jk_io.specs.MemReaches.{MemReachState}
-use Rattle.jk_model.specs.declared.served.Served.{Served}
+use Rattle.lb_model.specs.declared.served.Served.{Served}
 use Rattle.client_session.specs.Requests.{undated, visit}
 use Rattle.client_session.proofs.SurroundingsLaws.{parts_at}
 use Rattle.plain_commands.proofs.SessionLemmas.{first_is, run_from, run_listed}

@@ -1,5 +1,0 @@
-use Rattle.std.proofs.Common.{arith}
-use Rattle.balancer_core.proofs.halvings.unlike_loads_may_tie.Goals as goal
-
-pub returns-clause-tie : goal.returns-clause-tie
-returns-clause-tie c = omega arith

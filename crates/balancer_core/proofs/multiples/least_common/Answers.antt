@@ -1,8 +1,0 @@
-use Rattle.balancer_core.proofs.MultipleLaws.{none_among, some_is_least}
-use Rattle.balancer_core.proofs.multiples.least_common.Goals as goal
-
-pub returns : goal.returns
-returns c = record {
-  some = some_is_least c.lcm_of.result c.args.factors.now c.requires c.lcm_of.ensures.value;
-  none = none_among c.lcm_of.result c.args.factors.now c.requires c.lcm_of.ensures.value;
-}

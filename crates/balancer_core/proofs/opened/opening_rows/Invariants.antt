@@ -1,5 +1,0 @@
-use Rattle.balancer_core.specs.Shown.{AreOpened}
-use Rattle.balancer_core.proofs.opened.opening_rows.Given as goal
-
-abbrev pub invariant-loop-i : goal.invariant-loop-i
-invariant-loop-i l = AreOpened l.common l.members l.rows l.i l.opened.items

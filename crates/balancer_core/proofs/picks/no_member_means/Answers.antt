@@ -1,6 +1,0 @@
-use Rattle.std.proofs.Common.{reverse}
-use Rattle.balancer_core.proofs.PickLaws.{unanswered_means}
-use Rattle.balancer_core.proofs.picks.no_member_means.Goals as goal
-
-pub returns : goal.returns
-returns c = unanswered_means c.args.rules c.args.opening.now (reverse c.args.past.now) c.args.ask.now

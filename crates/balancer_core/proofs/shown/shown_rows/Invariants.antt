@@ -1,5 +1,0 @@
-use Rattle.balancer_core.specs.Shown.{AreShown}
-use Rattle.balancer_core.proofs.shown.shown_rows.Given as goal
-
-abbrev pub invariant-loop-i : goal.invariant-loop-i
-invariant-loop-i l = AreShown l.members l.rows l.i l.shown.items

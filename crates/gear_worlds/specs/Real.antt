@@ -1,0 +1,23 @@
+-- What is told of the real world's shelves: how often one failed, and where its segments go.
+use Rattle.std.specs.Prelude.{◌≡◌, ℕ, List, Option, Some, None}
+use Rattle.gear_worlds.specs.declared.shelves.RealShelf.{RealShelf}
+use Rattle.gear_worlds.specs.declared.shelves.RealShelf.TheVariants as shelf_is
+
+abbrev pub shelf_faults : {R F D : Type 0} → RealShelf R F D → ℕ
+shelf_faults (shelf_is.Files shelf) = shelf.failed
+shelf_faults (shelf_is.Dropped shelf) = 0
+
+-- the shelf writes into this directory, by these names of the balancers
+abbrev pub WritesIn : {R F D : Type 0} → (dir : List ℕ) → (names : List (List ℕ)) → RealShelf R F D → Type 0
+WritesIn dir names (shelf_is.Files shelf) = (shelf.dir ≡ dir) × (shelf.names ≡ names) × (shelf.failed ≡ 0)
+WritesIn dir names (shelf_is.Dropped shelf) = ⊥
+
+abbrev pub Drops : {R F D : Type 0} → RealShelf R F D → Type 0
+Drops (shelf_is.Files shelf) = ⊥
+Drops (shelf_is.Dropped shelf) = Unit {0}
+
+-- where a journal is kept, and the balancers are named, the shelf writes it; else it drops what it is given
+abbrev pub IsShelfFor : {R F D : Type 0} → (journal : Option (List ℕ)) → (names : Option (List (List ℕ))) → RealShelf R F D → Type 0
+IsShelfFor (Some dir) (Some names) shelf = WritesIn dir names shelf
+IsShelfFor None names shelf = Drops shelf
+IsShelfFor (Some dir) None shelf = Drops shelf

@@ -1,0 +1,316 @@
+//! Shelves of the real world: files in a directory, or none.
+ghost use Rattle.std.specs.Prelude.{◌≡◌, ◌≤◌, IfOk, IsSome, None, true, false, Ok, Err, IsErrOf, OnOk, slice_get};
+ghost use Rattle.std.specs.Fs.{asks_create_new, asks_write};
+ghost use Rattle.gear_worlds.specs.Files.{IsFileOf};
+ghost use Rattle.jk_io.specs.Told.{HasCause};
+
+use crate::journal_files::{SegmentFile, segment_file};
+use crate::segment_turns::SegmentTurns;
+use crate::tries::{APART_MILLIS, patience};
+use crate::trouble::Trouble;
+use jk_io::{Bytes, IoError, ListOf, NoMemory};
+use lb_model::Segment;
+use lb_shared::{Admission, Shelf};
+use libc::net::poll;
+use real_io::{Notices, moment};
+use std::fs::{self, OpenOptions};
+use std::io::{self, ErrorKind, Write};
+use std::rt::Files;
+use std::sync::Wait;
+use std::time::Clock;
+
+/// A shelf that writes each segment into a new file `DIR/NAME-FIRST.jkj`, after those that come before it, whichever shelf of
+/// the run has them. It tells nothing of what it holds.
+#[derive(Drop)]
+pub struct FileShelf<'r, R: Files> {
+    rt: &'r R,
+    dir: Bytes,
+    /// The balancers' names, in order.
+    names: ListOf<Bytes>,
+    /// Where it is said that a segment can't be written.
+    notices: Notices,
+    /// How far the journals are in files.
+    turns: SegmentTurns,
+    /// Which segment couldn't be written first.
+    trouble: Option<Trouble>,
+    failed: u64,
+}
+
+impl<'r, R: Files + Wait + Clock> FileShelf<'r, R> {
+    /// A shelf in this directory, for the balancers of these names, in order. No file is made or looked at.
+    pub fn new(
+        rt: &'r R,
+        dir: Bytes,
+        names: ListOf<Bytes>,
+        notices: Notices,
+        turns: SegmentTurns,
+    ) -> FileShelf<'r, R>
+        ensures { (result.dir ≡ dir) × (result.names ≡ names) × (result.failed ≡ 0) }
+    {
+        FileShelf {
+            rt,
+            dir,
+            names,
+            notices,
+            turns,
+            trouble: None,
+            failed: 0,
+        }
+    }
+
+    /// Which segment couldn't be written first, and why.
+    pub fn take_trouble(&mut self) -> Option<Trouble>
+        ensures { self.new.failed ≡ self.old.failed }
+    {
+        self.trouble.take()
+    }
+
+    // Writes the file of a segment, and says whether that was done whole. A balancer that has no name here has no file.
+    fn write(&mut self, lb: u32, segment: &Segment) -> Result<bool, NoMemory>
+        ensures { self.new.failed ≡ self.old.failed }
+    {
+        match self.file_of(lb, segment)? {
+            Some(file) => Ok(self.write_file(lb, file)),
+            None => Ok(false),
+        }
+    }
+
+    // The file of a segment; none where its balancer has no name here.
+    fn file_of(&self, lb: u32, segment: &Segment) -> Result<Option<SegmentFile>, NoMemory>
+        ensures { IfOk result (IsFileOf self.now.dir (slice_get self.now.names lb) segment.now) }
+    {
+        match self.names.get(lb as usize) {
+            Some(name) => Ok(Some(segment_file(&self.dir, name, segment)?)),
+            None => Ok(None),
+        }
+    }
+
+    // Writes a new file, and says whether that was done whole. It isn't where the path isn't UTF-8.
+    fn write_file(&mut self, lb: u32, file: SegmentFile) -> bool
+        ensures { self.new.failed ≡ self.old.failed }
+    {
+        let SegmentFile { path, text } = file;
+        let Ok(path) = String::from_utf8(path.into_vec()) else {
+            return false;
+        };
+        let trying = Trying {
+            notices: &self.notices,
+            turns: &self.turns,
+            lb,
+            until: moment().saturating_add(patience(self.trouble.as_ref())),
+        };
+        match write_until(self.rt, trying, path.as_str(), text.as_slice()) {
+            Ok(()) => true,
+            Err(reason) => {
+                self.notices.given_up(path.as_str(), &reason);
+                self.trouble = Some(Trouble::Unwritten { path, reason });
+                false
+            }
+        }
+    }
+
+    // The answer of a call; it is counted where nothing was written.
+    fn answer(&mut self, written: bool) -> Result<(), IoError>
+        ensures written { written ≡ true → result ≡ Ok tt }
+        ensures failed { written ≡ false → result ≡ Err IoError.Failed }
+        ensures cause { HasCause self.old.failed self.new.failed result }
+        ensures stands { OnOk result (self.new.failed ≡ self.old.failed) }
+        ensures wanted { IsErrOf result IoError.NoMemory → self.new.failed ≡ self.old.failed }
+    {
+        if written {
+            return Ok(());
+        }
+        self.failed = self.failed.saturating_add(1);
+        Err(IoError::Failed)
+    }
+
+    // Says how far the journal of a balancer is in files now.
+    fn pass_on(&self, lb: u32, segment: &Segment, is_written: bool) {
+        let count = segment.entries.len() as u64;
+        if is_written {
+            let end = segment.opening.next.saturating_add(count);
+            self.turns.come_to(self.rt, lb, end, count);
+        } else {
+            self.turns.give_up(self.rt, lb, count);
+        }
+    }
+
+    // Writes the file of a segment in its turn, and counts where that wasn't done.
+    fn keep_file(&mut self, lb: u32, segment: &Segment) -> Result<(), IoError>
+        ensures cause { HasCause self.old.failed self.new.failed result }
+        ensures stands { OnOk result (self.new.failed ≡ self.old.failed) }
+        ensures wanted { IsErrOf result IoError.NoMemory → self.new.failed ≡ self.old.failed }
+    {
+        self.turns.wait_until(self.rt, lb, segment.opening.next);
+        let written = self.write(lb, segment);
+        self.pass_on(lb, segment, matches!(written, Ok(true)));
+        self.answer(written?)
+    }
+}
+
+// Until when a file of a balancer is tried to be written, and who learns that it can't be.
+#[derive(Clone, Copy)]
+struct Trying<'a> {
+    notices: &'a Notices,
+    turns: &'a SegmentTurns,
+    lb: u32,
+    until: u64,
+}
+
+// Writes a new file. Where that fails it is tried again until a moment, which is said on standard error, and nobody waits for it;
+// not where the file is there already.
+fn write_until<R: Files + Wait>(
+    rt: &R,
+    trying: Trying<'_>,
+    path: &str,
+    text: &[u8],
+) -> io::Result<()> {
+    let mut is_said = false;
+    for _ in 0..u64::MAX {
+        let Err(reason) = write_new(rt, path, text) else {
+            return Ok(());
+        };
+        if reason.kind() == ErrorKind::AlreadyExists || moment() >= trying.until {
+            return Err(reason);
+        }
+        if !is_said {
+            trying.notices.unkept(path, &reason);
+            trying.turns.be_late(rt, trying.lb);
+            is_said = true;
+        }
+        poll(&mut [], APART_MILLIS);
+    }
+    Err(ErrorKind::TimedOut.into())
+}
+
+// How a file is opened that is to be written: none that is there already is.
+fn only_new() -> OpenOptions
+    ensures { (asks_write result ≡ true) × (asks_create_new result ≡ true) }
+{
+    let mut options = OpenOptions::new();
+    options.write(true);
+    options.create_new(true);
+    options
+}
+
+// Writes a new file. One that isn't whole is taken away.
+fn write_new<R: Files>(rt: &R, path: &str, text: &[u8]) -> io::Result<()> {
+    let mut out = only_new().open(rt, path)?;
+    let written = out.write_all(text);
+    if written.is_err() {
+        let _ = fs::remove_file(rt, path);
+    }
+    written
+}
+
+impl<'r, R: Files + Wait + Clock> Shelf for FileShelf<'r, R> {
+    ghost use Rattle.std.specs.Prelude.{None};
+
+    ghost shelved = { λ _. None };
+
+    ghost faults = { λ s. s.failed };
+
+    /// It fails for a balancer that has no name here, and where the file can't be made new and written whole.
+    fn keep(&mut self, lb: u32, segment: Segment) -> Result<(), IoError> {
+        self.keep_file(lb, &segment)
+    }
+
+    /// It waits where more entries than may be lost could come to be in no file.
+    fn admit(&self, lb: u32, entries: usize, cut_at: u32) -> Admission {
+        self.turns.begin(self.rt, lb, entries, cut_at);
+        Admission::new(lb, entries)
+    }
+
+    fn settle(&self, admission: Admission, added: usize) {
+        let lb = admission.lb();
+        self.turns.settle(self.rt, lb, admission.unused(added));
+    }
+
+    fn failed(&self) -> u64 {
+        self.failed
+    }
+}
+
+/// A shelf that drops what it is given. It never fails, and tells nothing.
+#[derive(Drop)]
+pub struct DropShelf;
+
+impl Shelf for DropShelf {
+    ghost use Rattle.std.specs.Prelude.{None};
+
+    ghost shelved = { λ _. None };
+
+    ghost faults = { λ _. 0 };
+
+    fn keep(&mut self, _lb: u32, _segment: Segment) -> Result<(), IoError>
+        ensures { result ≡ Ok tt }
+    {
+        Ok(())
+    }
+
+    fn admit(&self, lb: u32, entries: usize, _cut_at: u32) -> Admission {
+        Admission::new(lb, entries)
+    }
+
+    fn settle(&self, admission: Admission, added: usize) {
+        admission.unused(added);
+    }
+
+    fn failed(&self) -> u64 {
+        0
+    }
+}
+
+/// The shelf of a real gear: files where a journal is kept, else none.
+#[derive(Drop)]
+pub enum RealShelf<'r, R: Files> {
+    Files(FileShelf<'r, R>),
+    Dropped(DropShelf),
+}
+
+impl<'r, R: Files + Wait + Clock> RealShelf<'r, R> {
+    /// Which segment couldn't be written first, and why.
+    pub(crate) fn take_trouble(&mut self) -> Option<Trouble> {
+        match self {
+            RealShelf::Files(shelf) => shelf.take_trouble(),
+            RealShelf::Dropped(_) => None,
+        }
+    }
+}
+
+impl<'r, R: Files + Wait + Clock> Shelf for RealShelf<'r, R> {
+    ghost use Rattle.std.specs.Prelude.{None};
+    ghost use Rattle.gear_worlds.specs.Real.{shelf_faults};
+
+    ghost shelved = { λ _. None };
+
+    ghost faults = { shelf_faults };
+
+    fn keep(&mut self, lb: u32, segment: Segment) -> Result<(), IoError> {
+        match self {
+            RealShelf::Files(shelf) => shelf.keep(lb, segment),
+            RealShelf::Dropped(shelf) => shelf.keep(lb, segment),
+        }
+    }
+
+    fn admit(&self, lb: u32, entries: usize, cut_at: u32) -> Admission {
+        match self {
+            RealShelf::Files(shelf) => shelf.admit(lb, entries, cut_at),
+            RealShelf::Dropped(shelf) => shelf.admit(lb, entries, cut_at),
+        }
+    }
+
+    fn settle(&self, admission: Admission, added: usize) {
+        match self {
+            RealShelf::Files(shelf) => shelf.settle(admission, added),
+            RealShelf::Dropped(shelf) => shelf.settle(admission, added),
+        }
+    }
+
+    fn failed(&self) -> u64 {
+        match self {
+            RealShelf::Files(shelf) => shelf.failed(),
+            RealShelf::Dropped(shelf) => shelf.failed(),
+        }
+    }
+}

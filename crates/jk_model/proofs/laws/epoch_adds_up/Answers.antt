@@ -1,6 +1,0 @@
-use Rattle.std.proofs.Common.{reverse}
-use Rattle.jk_model.proofs.TicketLaws.{units-epoch}
-use Rattle.jk_model.proofs.laws.epoch_adds_up.Goals as goal
-
-pub returns : goal.returns
-returns c = units-epoch c.args.rules c.args.opening.now (reverse c.args.past.now) c.args.member c.requires

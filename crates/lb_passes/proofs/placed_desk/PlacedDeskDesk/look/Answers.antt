@@ -1,0 +1,8 @@
+-- The pass stays in its place.
+use Rattle.std.proofs.Common.{ap}
+use Rattle.lb_book.specs.Desks.{DeskState}
+use Rattle.lb_passes.proofs.PlacedLaws.{placed_stay}
+use Rattle.lb_passes.proofs.placed_desk.PlacedDeskDesk.look.Goals as goal
+
+pub invariant_of-self : goal.invariant_of-self
+invariant_of-self g c = record { placed = placed_stay _ _ _ _ _ c.args.self.now.placed c.look.ensures.stay (ap (λ (d : DeskState). d.caller) c.look.ensures.same) (ap (λ (d : DeskState). d.sizes) c.look.ensures.same) }

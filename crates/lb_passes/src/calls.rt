@@ -1,0 +1,83 @@
+//! The calls of a desk on one balancer, with the receipts and the tickets that the desk keeps.
+ghost use Rattle.std.specs.Prelude.{◌≡◌, ◌≤◌, true, false, not, filter, IfOk, IfErr, OnOk};
+ghost use Rattle.lb_book.specs.Desks.{holds, is_pair};
+ghost use Rattle.lb_model.specs.Tickets.{is_returned};
+ghost use Rattle.lb_model.specs.declared.journal.TheConstants.{MOST_BYTES};
+ghost use Rattle.lb_book.specs.Histories.{has_made};
+ghost use Rattle.lb_passes.specs.Calls.{CallChooses, CallCommands, CallDenies, CallRefuses};
+ghost use Rattle.lb_passes.specs.Holds.{Returns, own_in};
+
+use crate::desk_lists::DeskLists;
+use crate::holds::{Returned, command_in, return_in, select_in};
+use crate::pass::Pass;
+use crate::pass_book::PassBook;
+use lb_book::desk::{Choice, Occasion};
+use lb_book::{PlainLease, chosen, take_out};
+use lb_model::{AdminError, Ask, Command, FullMark, RoomError};
+use std::sync::Wait;
+
+/// Asks for a member. The room for the receipts is taken before the turn.
+pub(crate) fn choose_at<R: Wait>(
+    rt: &R,
+    book: &PassBook,
+    pass: &mut Pass,
+    lists: &mut DeskLists,
+    on: Occasion,
+    ask: &Ask,
+) -> Result<Choice<PlainLease>, RoomError<FullMark>>
+    requires of { pass.old.seat.table_id ≡ book.now.table.shared.table_id }
+    requires caller { on.session ≡ pass.old.number }
+    ensures of { pass.new.seat.table_id ≡ pass.old.seat.table_id }
+    ensures number { pass.new.number ≡ pass.old.number }
+    ensures ok { IfOk result (CallChooses pass.old.seat.me.0 pass.new.seat.me.0 lists.old lists.new on ask.now) }
+    ensures err { IfErr result (CallDenies pass.old.seat.me.0 pass.new.seat.me.0 lists.old lists.new on) }
+{
+    lists.receipts.reserve(lists.held.len() + 3)?;
+    lists.held.reserve(1)?;
+    let picked = select_in(rt, book, pass, &mut lists.receipts, on, ask)?;
+    Ok(chosen(&mut lists.held, on.lb, picked))
+}
+
+/// Takes a ticket back that the caller got and still has.
+pub(crate) fn return_at<R: Wait>(
+    rt: &R,
+    book: &PassBook,
+    pass: &mut Pass,
+    lists: &mut DeskLists,
+    on: Occasion,
+    back: Returned,
+)
+    requires of { pass.old.seat.table_id ≡ book.now.table.shared.table_id }
+    requires caller { on.session ≡ pass.old.number }
+    requires made { has_made back.ticket (own_in pass.old.seat.me.0) ≡ true }
+    requires still { is_returned back.ticket (own_in pass.old.seat.me.0) ≡ false }
+    requires held { holds lists.old.held.items (on.lb, back.ticket) ≡ true }
+    requires bytes { back.outcome.bytes ≤ MOST_BYTES }
+    ensures of { pass.new.seat.table_id ≡ pass.old.seat.table_id }
+    ensures number { pass.new.number ≡ pass.old.number }
+    ensures back { Returns pass.old.seat.me.0 pass.new.seat.me.0 lists.old.receipts.items lists.new.receipts.items on back.ticket back.outcome }
+    ensures held { lists.new.held.items ≡ filter (λ x. not (is_pair (on.lb, back.ticket) x)) lists.old.held.items }
+{
+    return_in(rt, book, pass, &mut lists.receipts, on, back);
+    take_out(&mut lists.held, (on.lb, back.ticket));
+}
+
+/// Does a command. The room for the receipts is taken before the turn.
+pub(crate) fn command_at<R: Wait>(
+    rt: &R,
+    book: &PassBook,
+    pass: &mut Pass,
+    lists: &mut DeskLists,
+    on: Occasion,
+    command: &Command,
+) -> Result<(), AdminError<FullMark>>
+    requires of { pass.old.seat.table_id ≡ book.now.table.shared.table_id }
+    requires caller { on.session ≡ pass.old.number }
+    ensures of { pass.new.seat.table_id ≡ pass.old.seat.table_id }
+    ensures number { pass.new.number ≡ pass.old.number }
+    ensures ok { OnOk result (CallCommands pass.old.seat.me.0 pass.new.seat.me.0 lists.old lists.new on command.now) }
+    ensures err { IfErr result (CallRefuses pass.old.seat.me.0 pass.new.seat.me.0 lists.old lists.new on command.now) }
+{
+    lists.receipts.reserve(lists.held.len() + 2)?;
+    command_in(rt, book, pass, &mut lists.receipts, on, command)
+}

@@ -1,0 +1,43 @@
+-- The Books of a Site, and what its calls do with them.
+use Rattle.std.specs.Prelude.{◌≡◌, ℕ, ◌+◌, ◌≤◌, List, [], ◌∷◌, length, map, sum_by, Some, slice_get, slice_index, slice_set}
+use Rattle.lb_model.specs.Limits.{most_balancers}
+use Rattle.lb_model.specs.declared.journal.Call.{Call}
+use Rattle.lb_book.specs.Desks.{IsOwn}
+use Rattle.lb_book.specs.Journal.{Journal, next_number}
+use Rattle.lb_book.specs.PlainDesks.{AreLegal, AreModern}
+use Rattle.lb_book.specs.ToldBooks.{IsNextAt, grown_by, sizes_of}
+use Rattle.lb_book.specs.declared.receipt.Receipt.{Receipt}
+
+-- How many entries the Books ever added.
+abbrev pub added_in : List Journal → ℕ
+added_in books = sum_by (λ b. b.added) books
+
+-- The number that comes next in each.
+abbrev pub nexts_of : List Journal → List ℕ
+nexts_of books = map (λ b. next_number b) books
+
+-- A fact of the Book of balancer lb.
+abbrev pub At : List Journal → (lb : ℕ) → (Journal → Type 0) → Type 0
+At books lb P = (b : Journal) → slice_get books lb ≡ Some b → P b
+
+-- Each Book's next number is the one that it had at first, and one more for each entry that it added since.
+abbrev pub AreNumbered : (firsts : List ℕ) → List Journal → Type 0
+AreNumbered firsts books = (lb : ℕ) → At books lb (λ b. next_number b ≡ slice_index firsts lb + b.added)
+
+-- These are the Books of a Site whose name has these sizes and first numbers.
+pub record AreSited (sizes firsts : List ℕ) (books : List Journal) : Type 0 where
+  pub sized : sizes_of books ≡ sizes
+  pub numbered : AreNumbered firsts books
+  pub modern : AreModern books
+  pub sound : AreLegal books
+  pub few : length books ≤ most_balancers
+
+-- The call of a session at a moment added the entry of this receipt to the Book of balancer lb. It may follow those
+-- before it, and has the greater of this moment and theirs. No other Book changed.
+pub record AddsAt (old new : List Journal) (lb session at : ℕ) (call : Call) (r : Receipt) : Type 0 where
+  pub book : Journal
+  pub found : slice_get old lb ≡ Some book
+  pub own : IsOwn lb session at r
+  pub called : r.entry.call ≡ call
+  pub next : IsNextAt book at r.entry
+  pub grown : new ≡ slice_set old lb (grown_by book (r ∷ []))

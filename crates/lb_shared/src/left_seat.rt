@@ -1,0 +1,50 @@
+//! The seat of a desk that left.
+
+use crate::site::SiteName;
+use crate::told::SiteSeat;
+use jk_io::ListOf;
+use std::marker::Model;
+
+/// A seat at the Site's lock, with the history that it has seen. Only a desk that leaves makes one.
+#[derive(Drop)]
+pub struct LeftSeat<L: SiteName> {
+    seat: SiteSeat<L>,
+}
+
+impl<L: SiteName> Model for LeftSeat<L> {
+    ghost use Rattle.lb_shared.specs.Histories.{IsResting, SeatNote, number_of, seen_of};
+
+    ghost Value = { SeatNote };
+
+    ghost view = { λ s. record {
+      lock = s.seat.table_id;
+      number = number_of s.seat.me.0;
+      seen = seen_of s.seat.me.0;
+    } };
+
+    ghost invariant = { λ s. IsResting s.seat.me };
+}
+
+/// The seats of desks that left, in order.
+pub type LeftSeatList<L> = ListOf<LeftSeat<L>>;
+
+impl<L: SiteName> LeftSeat<L> {
+    ghost use Rattle.std.specs.Prelude.{◌≡◌, [], false};
+    ghost use Rattle.lb_shared.specs.Seats.{seated};
+    ghost use Rattle.lb_shared.specs.Histories.{IsResting, number_of, seen_of};
+
+    pub(crate) fn new(seat: SiteSeat<L>) -> LeftSeat<L>
+        requires { IsResting seat.me }
+        ensures { result ≡ record { lock = seat.table_id; number = number_of seat.me.0; seen = seen_of seat.me.0 } }
+    {
+        LeftSeat { seat }
+    }
+
+    pub(crate) fn into_seat(self) -> SiteSeat<L>
+        ensures lock { result.table_id ≡ self.lock }
+        ensures me { result.me ≡ (seated false self.number self.seen, []) }
+    {
+        let LeftSeat { seat } = self;
+        seat
+    }
+}

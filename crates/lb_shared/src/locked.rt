@@ -1,0 +1,252 @@
+//! What stands behind the lock: the Site, and the calls of one hold of it.
+
+use crate::account::Account;
+use crate::holds::{choose_in, command_in, note};
+use crate::site::{Site, SiteLease, SiteMark, SiteName, SiteSegment, SiteStray, SiteView};
+use jk_io::NoMemory;
+use lb_book::desk::{Choice, Occasion};
+use lb_model::{AdminError, Ask, Command, Outcome, RoomError};
+use std::marker::Model;
+use std::sync::ledger::Share;
+
+/// What a hold that may cut answered, with the segment that it cut.
+pub(crate) type Cut<L, T> = (Option<SiteSegment<L>>, T);
+
+/// How a hold that takes a lease back ended, with the segment that it cut before, where there was memory to cut one.
+pub(crate) type CutBack<L> = (
+    Result<Option<SiteSegment<L>>, NoMemory>,
+    Result<(), SiteStray<L>>,
+);
+
+/// A lease that a session gives back at a moment, with how its exchange ended.
+pub(crate) struct HandedBack<L> {
+    pub(crate) session: u32,
+    pub(crate) at: u64,
+    pub(crate) lease: SiteLease<L>,
+    pub(crate) outcome: Outcome,
+}
+
+/// A Site whose journals are cut before they grow long, with the balancer of the last hold and how many entries it added.
+#[derive(Drop)]
+pub(crate) struct Locked<L: SiteName> {
+    site: Site<L>,
+    /// The number of kept entries from which on a journal is cut; 0 is never.
+    cut_at: u32,
+    lb: u32,
+    count: usize,
+}
+
+impl<L: SiteName> Model for Locked<L> {
+    ghost use Rattle.std.specs.Prelude.{◌≡◌};
+    ghost use Rattle.lb_shared.specs.Holds.{AreShort, LockedState};
+
+    ghost Value = { LockedState };
+
+    ghost view = { λ l. record { books = l.site; cut_at = l.cut_at; lb = l.lb; count = l.count } };
+
+    ghost invariant = { λ l. (l.cut_at ≡ L.cut_at) × AreShort l.cut_at l.site };
+}
+
+impl<L: SiteName> Locked<L> {
+    ghost use Rattle.std.specs.Prelude.{◌≡◌, ℕ, ◌+◌, ◌<◌, ◌≤◌, ◌↔◌, [], length, slice_index, vec_len, vec_capacity, None, IfOk, IfErr, IsErr, IsErrOf, IsSome, OnOk, OnErr};
+    ghost use Rattle.lb_model.specs.Present.{IsPresent};
+    ghost use Rattle.lb_book.specs.Desks.{IsNotOut};
+    ghost use Rattle.lb_book.specs.Journal.{Journal, past_of};
+    ghost use Rattle.lb_book.specs.ToldBooks.{IsFound};
+    ghost use Rattle.lb_shared.specs.Holds.{
+      CutChooses,
+      CutCommands,
+      CutDenies,
+      CutMeets,
+      CutRefuses,
+      CutTakesBack,
+      CutsFirst,
+      HoldReturns,
+      IsAdminMark,
+      IsRoomMark,
+      KeepsAccount,
+      TellsNews,
+      cut_in,
+      hold_of,
+    };
+    ghost use Rattle.lb_shared.specs.SharedDesks.{CutsOrWants};
+    ghost use Rattle.lb_shared.specs.Sites.{AreSited, At};
+    ghost use Rattle.lb_model.specs.declared.journal.TheConstants.{MOST_BYTES};
+    ghost use Rattle.lb_shared.specs.declared.site.TheConstants.{MOST_ENTRIES};
+
+    pub(crate) fn new(site: Site<L>, cut_at: u32) -> Locked<L>
+        requires named { cut_at ≡ L.cut_at }
+        requires uncut { 0 < cut_at → (lb : ℕ) → At site lb (λ b. b.entries ≡ []) }
+        ensures { result ≡ record { books = site; cut_at = cut_at; lb = 0; count = 0 } }
+    {
+        site.count();
+        Locked {
+            site,
+            cut_at,
+            lb: 0,
+            count: 0,
+        }
+    }
+
+    pub(crate) fn into_site(self) -> Site<L>
+        ensures { result ≡ self.books }
+    {
+        self.site
+    }
+
+    // Cuts a journal, if it has come to the length at which it is cut.
+    fn cut_first(&mut self, lb: u32) -> Result<Option<SiteSegment<L>>, NoMemory>
+        requires lb { lb < length self.old.books }
+        ensures ok { IfOk result (CutsFirst self.old.books self.new.books lb) }
+        ensures when { IfOk result (λ s. At self.old.books lb (λ b. IsSome s ↔ ((0 < L.cut_at) × (L.cut_at ≤ length b.entries)))) }
+        ensures sited { AreSited L.sizes L.firsts self.old.books × AreSited L.sizes L.firsts self.new.books }
+        ensures short { OnOk result (0 < self.new.cut_at → At self.new.books lb (λ b. length b.entries < self.new.cut_at)) }
+        ensures err { OnErr result (self.new ≡ self.old) }
+        ensures same { (self.new.cut_at ≡ self.old.cut_at) × (self.new.lb ≡ self.old.lb) }
+    {
+        self.site.count();
+        if self.cut_at == 0 || self.site.kept(lb) < self.cut_at as u64 {
+            return Ok(None);
+        }
+        let segment = self.site.cut(lb)?;
+        self.site.count();
+        Ok(Some(segment))
+    }
+
+    /// Cuts the journal if due, does a Maintain if due, and then a Select.
+    pub(crate) fn choose(
+        &mut self,
+        on: Occasion,
+        ask: &Ask,
+        account: &mut Account<L>,
+    ) -> Cut<L, Result<Choice<SiteLease<L>>, RoomError<SiteMark<L>>>>
+        requires lb { on.lb < length L.sizes }
+        requires room { vec_len account.old.receipts + 2 ≤ vec_capacity account.old.receipts }
+        ensures ok { IfOk result.1 (CutChooses L.sizes L.firsts result.0 (hold_of self.old account.old) (hold_of self.new account.new) on ask.now) }
+        ensures err { IfErr result.1 (CutDenies L.sizes L.firsts result.0 (hold_of self.old account.old) (hold_of self.new account.new) on) }
+        ensures when { CutsOrWants L.sizes L.cut_at on.lb result.0 (IsErrOf result.1 RoomError.NoMemory) }
+        ensures mark { IfErr result.1 (IsRoomMark on.lb 2) }
+        ensures few { account.new.share.amount ≤ MOST_ENTRIES }
+        ensures kept { KeepsAccount account.old account.new }
+        ensures news { TellsNews on.lb self.new account.old account.new }
+    {
+        let before = account.receipts.len();
+        self.site.audit(&mut account.share);
+        self.lb = on.lb;
+        self.count = 0;
+        let segment = match self.cut_first(on.lb) {
+            Ok(segment) => segment,
+            Err(NoMemory) => return (None, Err(RoomError::NoMemory)),
+        };
+        let done = choose_in(&mut self.site, on, ask, account);
+        self.site.audit(&mut account.share);
+        self.count = account.receipts.len().saturating_sub(before);
+        (segment, done)
+    }
+
+    /// Cuts the journal if due, does a Maintain if due, and then a command.
+    pub(crate) fn command(
+        &mut self,
+        on: Occasion,
+        command: &Command,
+        account: &mut Account<L>,
+    ) -> Cut<L, Result<(), AdminError<SiteMark<L>>>>
+        requires lb { on.lb < length L.sizes }
+        requires room { vec_len account.old.receipts + 2 ≤ vec_capacity account.old.receipts }
+        ensures ok { OnOk result.1 (CutCommands L.sizes L.firsts result.0 (hold_of self.old account.old) (hold_of self.new account.new) on command.now) }
+        ensures err { IfErr result.1 (CutRefuses L.sizes L.firsts result.0 (hold_of self.old account.old) (hold_of self.new account.new) on command.now) }
+        ensures when { CutsOrWants L.sizes L.cut_at on.lb result.0 (IsErrOf result.1 AdminError.NoMemory) }
+        ensures mark { IfErr result.1 (IsAdminMark on.lb) }
+        ensures few { account.new.share.amount ≤ MOST_ENTRIES }
+        ensures kept { KeepsAccount account.old account.new }
+        ensures news { TellsNews on.lb self.new account.old account.new }
+    {
+        let before = account.receipts.len();
+        self.site.audit(&mut account.share);
+        self.lb = on.lb;
+        self.count = 0;
+        let segment = match self.cut_first(on.lb) {
+            Ok(segment) => segment,
+            Err(NoMemory) => return (None, Err(AdminError::NoMemory)),
+        };
+        let done = command_in(&mut self.site, on, command, account);
+        self.site.audit(&mut account.share);
+        self.count = account.receipts.len().saturating_sub(before);
+        (segment, done)
+    }
+
+    /// Cuts the journal if due, and takes a lease back. Where there is no memory for the cut the journal isn't cut.
+    pub(crate) fn give_back(&mut self, back: HandedBack<L>, account: &mut Account<L>) -> CutBack<L>
+        requires lb { back.lease.lb < length L.sizes }
+        requires bytes { back.outcome.bytes ≤ MOST_BYTES }
+        requires room { vec_len account.old.receipts < vec_capacity account.old.receipts }
+        ensures ok { OnOk result.1 (CutTakesBack L.sizes L.firsts (cut_in result.0) (hold_of self.old account.old) (hold_of self.new account.new) back) }
+        ensures err { OnErr result.1 (CutMeets L.sizes L.firsts (cut_in result.0) (hold_of self.old account.old) (hold_of self.new account.new) back.lease.lb) }
+        ensures when { CutsOrWants L.sizes L.cut_at back.lease.lb (cut_in result.0) (IsErr result.0) }
+        ensures stray { IfErr result.1 (λ s. (s.lb ≡ back.lease.lb) × (s.stray.ticket ≡ back.lease.ticket)) }
+        ensures why { IfErr result.1 (λ s. IsNotOut L.sizes None back.lease s.stray) }
+        ensures few { account.new.share.amount ≤ MOST_ENTRIES }
+        ensures kept { KeepsAccount account.old account.new }
+        ensures news { TellsNews back.lease.lb self.new account.old account.new }
+    {
+        self.site.count();
+        let cut = self.cut_first(back.lease.lb());
+        let done = self.take_back(back, account);
+        (cut, done)
+    }
+
+    // Takes a lease back. It takes no memory.
+    fn take_back(
+        &mut self,
+        back: HandedBack<L>,
+        account: &mut Account<L>,
+    ) -> Result<(), SiteStray<L>>
+        requires lb { back.lease.lb < length L.sizes }
+        requires bytes { back.outcome.bytes ≤ MOST_BYTES }
+        requires room { vec_len account.old.receipts < vec_capacity account.old.receipts }
+        ensures ok { OnOk result (HoldReturns (hold_of self.old account.old) (hold_of self.new account.new) back.session back.at back.lease back.outcome) }
+        ensures sited { AreSited L.sizes L.firsts self.old.books }
+        ensures stray { IfErr result (λ s. (s.lb ≡ back.lease.lb) × (s.stray.ticket ≡ back.lease.ticket)) }
+        ensures why { IfErr result (λ s. IsNotOut L.sizes None back.lease s.stray) }
+        ensures err { OnErr result (hold_of self.new account.new ≡ hold_of self.old account.old) }
+        ensures few { account.new.share.amount ≤ MOST_ENTRIES }
+        ensures kept { KeepsAccount account.old account.new }
+        ensures news { TellsNews back.lease.lb self.new account.old account.new }
+    {
+        let HandedBack {
+            session,
+            at,
+            lease,
+            outcome,
+        } = back;
+        self.lb = lease.lb();
+        self.count = 0;
+        self.site.count();
+        let done = self
+            .site
+            .give_back(session, at, lease, outcome, &mut account.share);
+        self.site.audit(&mut account.share);
+        note(&mut account.receipts, done?);
+        self.count = 1;
+        Ok(())
+    }
+
+    /// The balancer as it is now.
+    pub(crate) fn look(&mut self, lb: u32, share: &mut Share<L>) -> Result<SiteView<L>, NoMemory>
+        requires lb { lb < length L.sizes }
+        ensures lb { IfOk result (λ v. v.lb ≡ lb) }
+        ensures rows { IfOk result (λ v. length v.view.rows ≡ slice_index L.sizes lb) }
+        ensures present { IfOk result (λ v. (b : Journal) × IsFound L.sizes None lb b × IsPresent b.rules b.opening (past_of b) v.view) }
+        ensures shown { IfOk result (λ v. At self.old.books lb (λ b. IsPresent b.rules b.opening (past_of b) v.view)) }
+        ensures sited { AreSited L.sizes L.firsts self.old.books }
+        ensures next { IfOk result (λ v. length L.sizes ≡ 1 → slice_index L.firsts lb + share.old.amount ≤ v.view.next) }
+        ensures same { self.new.books ≡ self.old.books }
+        ensures amount { share.new.amount ≡ share.old.amount }
+        ensures parts { share.new.parts ≡ share.old.parts }
+        ensures news { self.new.count ≡ 0 }
+    {
+        self.site.audit(share);
+        self.count = 0;
+        self.site.view(lb)
+    }
+}

@@ -1,6 +1,0 @@
--- Books that keep nothing are short.
-use Rattle.locked_balancer.proofs.LockLaws.{short_new}
-use Rattle.locked_balancer.proofs.locked.Locked.new.Goals as goal
-
-pub invariant_of-result : goal.invariant_of-result
-invariant_of-result g c = (c.requires.named, short_new c.args.cut_at c.args.site c.count.ensures.named.sound c.requires.uncut)

@@ -1,6 +1,0 @@
--- What a Return tells, but whether memory was wanted for a cut.
-use Rattle.locked_balancer.proofs.ShelfLaws.{put_untold}
-use Rattle.locked_balancer.proofs.shared_desk.SharedDeskDesk.hand_back.Goals as goal
-
-pub returns-clause-shelf : goal.returns-clause-shelf
-returns-clause-shelf g c = put_untold g.S.Shelf.shelved g.S.Shelf.faults _ _ _ _ _ _ c.take_back.ensures.shelf

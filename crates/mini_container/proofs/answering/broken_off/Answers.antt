@@ -1,6 +1,0 @@
-use Rattle.std.proofs.Common.{refl}
-use Rattle.mini_container.proofs.answering.broken_off.Goals as goal
-
-pub returns : goal.returns
-returns c =
-    rw (c.in_ok-push.ensures.ok, c.in_ok-put_length.ensures, c.new-headers.ensures, c.new-messages.ensures, c.in_ok-from_slice.ensures) refl

@@ -1,5 +1,0 @@
-use Rattle.mini_container.proofs.CutLaws.{cut-is}
-use Rattle.mini_container.proofs.laws.a_body_is_its_chunks.Goals as goal
-
-pub returns : goal.returns
-returns c = cut-is

@@ -1,6 +1,0 @@
-use Rattle.std.proofs.Common.{◌≡◌, drop}
-use Rattle.mini_container.specs.Request.{secret_in}
-use Rattle.mini_container.proofs.request.secret.Given as goal
-
-abbrev pub invariant-loop-attribute : goal.invariant-loop-attribute
-invariant-loop-attribute l = secret_in (drop l.attribute-index l.attributes) ≡ secret_in l.attributes

@@ -1,6 +1,0 @@
--- A bell was made in each round.
-use Rattle.std.proofs.Common.{◌≡◌, vec_len}
-use Rattle.pass_desk.proofs.bells.Bells.quiet.Given as goal
-
-abbrev pub invariant-loop : goal.invariant-loop
-invariant-loop l = vec_len l.bells ≡ l.counter

@@ -1,6 +1,0 @@
--- The pass stays in its place.
-use Rattle.pass_desk.proofs.PlacedLaws.{placed_stay}
-use Rattle.pass_desk.proofs.placed_desk.PlacedDeskDesk.choose.Goals as goal
-
-pub invariant_of-self : goal.invariant_of-self
-invariant_of-self g c = record { placed = placed_stay _ _ _ _ _ c.args.self.now.placed c.choose.ensures.stay c.choose.ensures.kept.caller c.choose.ensures.kept.sizes }

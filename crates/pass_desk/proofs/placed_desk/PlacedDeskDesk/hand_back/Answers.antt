@@ -1,6 +1,0 @@
--- The pass stays in its place.
-use Rattle.pass_desk.proofs.PlacedLaws.{placed_stay}
-use Rattle.pass_desk.proofs.placed_desk.PlacedDeskDesk.hand_back.Goals as goal
-
-pub invariant_of-self : goal.invariant_of-self
-invariant_of-self g c = record { placed = placed_stay _ _ _ _ _ c.args.self.now.placed c.hand_back.ensures.stay c.hand_back.ensures.kept.caller c.hand_back.ensures.kept.sizes }

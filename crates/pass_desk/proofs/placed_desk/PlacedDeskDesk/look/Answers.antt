@@ -1,8 +1,0 @@
--- The pass stays in its place.
-use Rattle.std.proofs.Common.{ap}
-use Rattle.balancer_core.specs.Desks.{DeskState}
-use Rattle.pass_desk.proofs.PlacedLaws.{placed_stay}
-use Rattle.pass_desk.proofs.placed_desk.PlacedDeskDesk.look.Goals as goal
-
-pub invariant_of-self : goal.invariant_of-self
-invariant_of-self g c = record { placed = placed_stay _ _ _ _ _ c.args.self.now.placed c.look.ensures.stay (ap (λ (d : DeskState). d.caller) c.look.ensures.same) (ap (λ (d : DeskState). d.sizes) c.look.ensures.same) }

@@ -1,7 +1,0 @@
--- What the Books so far added.
-use Rattle.std.proofs.Common.{◌≡◌, take}
-use Rattle.locked_balancer.specs.Sites.{added_in}
-use Rattle.site_closing.proofs.kept.added_by.Given as goal
-
-abbrev pub invariant-loop-book : goal.invariant-loop-book
-invariant-loop-book l = l.added ≡ added_in (take l.book-index l.books)

@@ -1,0 +1,146 @@
+//! Reading a map, line by line.
+ghost use Rattle.std.specs.Prelude.{◌≡◌, ◌≤◌, ◌+◌, ◌++◌, map, length, true, Some, IfOk, OnOk};
+ghost use Rattle.std.specs.Option.{option_map};
+ghost use Rattle.site_config.specs.Properties.{is_silent};
+ghost use Rattle.site_mounts.specs.Lines.{made_rules, read_text, rules_of, said, with_rules};
+ghost use Rattle.site_mounts.specs.Refusals.{Gives, code_in};
+ghost use Rattle.site_mounts.specs.Sides.{as_patterns};
+ghost use Rattle.site_mounts.specs.Sites.{stands_in};
+ghost use Rattle.jk_io.specs.declared.whole_input.TheConstants.{MAX_INPUT_BYTES};
+
+use crate::error::{MapError, MapReason, refused};
+use crate::pattern::Pattern;
+use crate::role::role_of;
+use crate::rule::{Role, Rule};
+use crate::side::{Patterns, left_of, patterns_of};
+use crate::uri_map::UriMap;
+use crate::workers::Workers;
+use jk_io::{Bytes, NoMemory, trim};
+use site_config::{Config, cut_at, first_line, without_mark};
+use std::alloc::Global;
+
+/// The pattern P, or P with S after it.
+fn pattern_with(alloc: Global, first: &[u8], more: &[u8]) -> Result<Pattern, NoMemory>
+    ensures { IfOk result (λ p. p ≡ first.now ++ more.now) }
+{
+    let mut text = Bytes::from_slice(alloc, first)?;
+    text.extend(more)?;
+    Ok(Pattern::new(text))
+}
+
+/// Adds the rules of a line at the end, one for each pattern.
+fn push_rules(
+    alloc: Global,
+    out: &mut Vec<Rule>,
+    line: u32,
+    patterns: Patterns<'_>,
+    role: Role,
+) -> Result<(), NoMemory>
+    ensures added { OnOk result (out.new.items ≡ out.old.items ++ made_rules line role (as_patterns patterns.entry)) }
+    ensures count { OnOk result (length out.new.items ≤ length out.old.items + 2) }
+{
+    let pattern = pattern_with(alloc, patterns.first, b"")?;
+    out.push(Rule {
+        line,
+        pattern,
+        role,
+    })?;
+    if let Some(more) = patterns.more {
+        let pattern = pattern_with(alloc, patterns.first, more)?;
+        out.push(Rule {
+            line,
+            pattern,
+            role,
+        })?;
+    }
+    Ok(())
+}
+
+/// Whether a trimmed line is blank or a comment.
+fn is_silent(text: &[u8]) -> bool
+    ensures { result ≡ is_silent text.now }
+{
+    text.is_empty() || text[0] == b'#'
+}
+
+/// Adds the rules of a line with these two sides.
+fn push_sides(
+    alloc: Global,
+    out: &mut Vec<Rule>,
+    workers: &Workers<'_>,
+    line: u32,
+    left: &[u8],
+    right: &[u8],
+) -> Result<(), MapError>
+    ensures read { Gives (λ _. out.new.items) result
+        (with_rules out.old.items (rules_of workers.now line (Some (left.now, right.now)))) }
+    ensures count { OnOk result (length out.new.items ≤ length out.old.items + 2) }
+{
+    let side = left_of(trim(left));
+    let Some(patterns) = patterns_of(side.pattern) else {
+        return Err(refused(line, MapReason::BadPattern));
+    };
+    let role = role_of(alloc, workers, line, side.exclusion, right)?;
+    if !side.off {
+        push_rules(alloc, out, line, patterns, role)?;
+    }
+    Ok(())
+}
+
+/// Adds the rules of a trimmed line.
+fn push_line(
+    alloc: Global,
+    out: &mut Vec<Rule>,
+    workers: &Workers<'_>,
+    line: u32,
+    text: &[u8],
+) -> Result<(), MapError>
+    ensures read { Gives (λ _. out.new.items) result
+        (with_rules out.old.items (said workers.now line text.now)) }
+    ensures count { OnOk result (length out.new.items ≤ length out.old.items + 2) }
+{
+    if is_silent(text) {
+        return Ok(());
+    }
+    match cut_at(text, b'=') {
+        None => Err(refused(line, MapReason::BadPattern)),
+        Some((left, right)) => push_sides(alloc, out, workers, line, left, right),
+    }
+}
+
+/// The number of the refusal of a trimmed line, if it is refused.
+pub fn refusal_of(
+    alloc: Global,
+    workers: &Workers<'_>,
+    line: u32,
+    text: &[u8],
+) -> Result<Option<u8>, NoMemory>
+    ensures { IfOk result (λ code. code ≡ code_in (said workers.now line text.now)) }
+{
+    let mut rules = Vec::new(alloc);
+    match push_line(alloc, &mut rules, workers, line, text) {
+        Ok(()) => Ok(None),
+        Err(MapError::Refused { code, .. }) => Ok(Some(code)),
+        Err(MapError::NoMemory) => Err(NoMemory),
+    }
+}
+
+/// The map of a text, or its first refusal.
+pub fn read_map(alloc: Global, text: &[u8], config: &Config) -> Result<UriMap, MapError>
+    requires { length text.now ≤ MAX_INPUT_BYTES }
+    ensures read { Gives (λ map. map) result (read_text config.now text.now) }
+
+    // All that the map names stands in the configuration.
+    ensures stands { IfOk result (λ map. stands_in config.now map ≡ true) }
+{
+    let workers = Workers::new(alloc, config)?;
+    let mut rules = Vec::new(alloc);
+    let mut number: u32 = 0;
+    let mut rest = without_mark(text);
+    while let Some((line, behind)) = first_line(rest) {
+        number += 1;
+        push_line(alloc, &mut rules, &workers, number, trim(line))?;
+        rest = behind;
+    }
+    Ok(UriMap::from_vec(rules))
+}

@@ -1,6 +1,0 @@
-use Rattle.std.proofs.Common.{◌≡◌, ◌++◌, replicate}
-use Rattle.worker_gears.proofs.journal_files.put_first.Given as goal
-
--- the zeros so far
-abbrev pub invariant-loop-zero : goal.invariant-loop-zero
-invariant-loop-zero l = l.path ≡ l.fn.path ++ replicate l._zero 48

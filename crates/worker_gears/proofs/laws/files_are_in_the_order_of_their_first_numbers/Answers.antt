@@ -1,5 +1,0 @@
-use Rattle.worker_gears.proofs.FileLaws.{files_in_order}
-use Rattle.worker_gears.proofs.laws.files_are_in_the_order_of_their_first_numbers.Goals as goal
-
-pub returns : goal.returns
-returns c = files_in_order

@@ -1,5 +1,0 @@
-use Rattle.std.proofs.Common.{refl}
-use Rattle.worker_props.proofs.member_lists.owner_of.Goals as goal
-
-pub returns-in-Some : goal.returns-in-Some
-returns-in-Some c = rw c.in-Some.ensures.some.1 refl
