@@ -1,23 +1,14 @@
 -- How many entries a seat has seen as its own, after one hold more.
-use Rattle.std.proofs.Common.{◌≡◌, ℕ, ◌+◌, List, [], ◌++◌, length, drop, Option, None, inl, inr, ap, ◌∙◌, arith}
-use Rattle.std.specs.Prelude.{IfErr, IfOk, OnErr, OnOk, Result, Ok, Err}
+use Rattle.std.proofs.Common.{◌≡◌, ℕ, ◌+◌, List, [], ◌++◌, length, drop, Option, ap, ◌∙◌, arith}
+use Rattle.std.specs.Prelude.{OnErr, OnOk, Result, Ok, Err}
 use Rattle.std.proofs.lemmas.List.{length-append, length-drop, length-map}
 use Rattle.atomic_table.specs.Seated.{TableId}
 use Rattle.atomic_table.specs.Table.{Me}
-use Rattle.lb_model.specs.declared.ask.Ask.{Ask}
-use Rattle.lb_model.specs.declared.change.Command.{Command}
 use Rattle.lb_model.specs.declared.journal.Entry.{Entry}
 use Rattle.lb_model.specs.declared.opening.Opening.{Opening}
-use Rattle.lb_model.specs.declared.refusal.AdminError.{AdminError}
-use Rattle.lb_model.specs.declared.refusal.RoomError.{RoomError}
-use Rattle.lb_book.specs.Desks.{LeaseNote}
-use Rattle.lb_book.specs.declared.desk.Choice.{Choice}
-use Rattle.lb_book.specs.declared.desk.Occasion.{Occasion}
 use Rattle.lb_book.specs.declared.receipt.Receipt.{Receipt}
 use Rattle.lb_shared.specs.declared.view.View.{View}
-use Rattle.lb_shared.specs.Histories.{SeatMaySee, SeatSees, gained_in, number_of, own_count, own_in, seat_note, seen_of}
-use Rattle.lb_shared.specs.Notes.{MarkNote}
-use Rattle.lb_shared.specs.Stakes.{StakeChooses, StakeCommands, StakeDenies, StakeRefuses, StakeState}
+use Rattle.lb_shared.specs.Histories.{SeatSees, gained_in, number_of, own_count, own_in, seat_note, seen_of}
 use Rattle.lb_shared.proofs.GoneLaws.{Adds}
 use Rattle.lb_shared.proofs.LeftLaws.{drop_front, own_sees}
 
@@ -51,24 +42,6 @@ count_sees starts lock lock' old new rs rs' a a' f sees adds was is counted =
       counted,
     )
 
-pub count_may : {S : Type 0} (starts : List Opening) (lock lock' : TableId) (old new : Me (Option S) (View (ℕ × Entry))) (rs rs' : List Receipt) (a a' f : ℕ) (W : Type 0)
-    → SeatMaySee starts old new (gained_in rs rs') W → Adds rs rs' → a ≡ length rs + f → a' ≡ length rs' + f
-    → own_count (seat_note lock old) ≡ a → own_count (seat_note lock' new) ≡ a'
-count_may starts lock lock' old new rs rs' a a' f W may adds was is counted =
-    elim may [
-      | inl sees ↦ count_sees starts lock lock' old new rs rs' a a' f sees adds was is counted
-      | inr none ↦
-          omega (
-            arith,
-            ap (λ m. own_count (seat_note lock' m)) none.0,
-            gained_count rs rs' adds.0 adds.1,
-            ap (λ (es : List (ℕ × Entry)). length es) none.1,
-            was,
-            is,
-            counted,
-          )
-    ]
-
 -- A look.
 pub count_looked : {S : Type 0} (starts : List Opening) (lock lock' : TableId) (old new : Me (Option S) (View (ℕ × Entry))) (a a' : ℕ)
     → SeatSees starts old new [] → a' ≡ a → own_count (seat_note lock old) ≡ a → own_count (seat_note lock' new) ≡ a'
@@ -76,16 +49,6 @@ count_looked starts lock lock' old new a a' sees same counted =
     let own : own_in (number_of new.0) (seen_of new.0) ≡ own_in (number_of old.0) (seen_of old.0) ++ [] =
     ap (λ (n : ℕ). own_in n (seen_of new.0)) sees.number ∙ own_sees starts (number_of old.0) (seen_of old.0) (seen_of new.0) [] sees.sees in
     omega (arith, ap (λ (es : List (ℕ × Entry)). length es) own, length-append (own_in (number_of old.0) (seen_of old.0)) [], same, counted)
-
-pub adds_choice : (sizes : List ℕ) (old new : StakeState) (on : Occasion) (ask : Ask) (r : Result (Choice LeaseNote) (RoomError MarkNote))
-    → IfOk r (StakeChooses sizes old new on ask) → IfErr r (StakeDenies sizes old new on) → Adds old.receipts new.receipts
-adds_choice sizes old new on ask (Ok c) ok err = (_, (ok 0 0 0 None).gains.gains.receipts)
-adds_choice sizes old new on ask (Err e) ok err = (_, (err 0 0 0 0 0 None).gains.receipts)
-
-pub adds_command : {U : Type 0} (sizes : List ℕ) (old new : StakeState) (on : Occasion) (command : Command) (r : Result U (AdminError MarkNote))
-    → IfOk r (λ _. StakeCommands sizes old new on command) → IfErr r (StakeRefuses sizes old new on command) → Adds old.receipts new.receipts
-adds_command sizes old new on command (Ok c) ok err = (_, (ok 0 0 0 None).gains.gains.receipts)
-adds_command sizes old new on command (Err e) ok err = (_, (err 0 0 0 0 0 None).gains.receipts)
 
 -- One receipt more, or none, by the length of the list and the share's amount.
 pub count_back : {S : Type 0} (starts : List Opening) (lock lock' : TableId) (old new : Me (Option S) (View (ℕ × Entry))) (rs rs' : List Receipt) (a a' k : ℕ)

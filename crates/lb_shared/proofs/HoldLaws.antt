@@ -228,18 +228,6 @@ due_mark lb b at (room.Full mark) is = (
 )
 due_mark lb b at room.NoMemory is = tt
 
-pub room_mark : (lb : ℕ) (b : Journal) (e : RoomError MarkNote) → IsRoomAt {T = ℕ} lb 2 b (Err e) → IsRoomMark lb 2 e
-room_mark lb b (room.Full mark) is = (
-  record { of = is.1.of; refusal = is.1.refusal },
-  (let next : mark.numbers.next ≡ next_number b = is.1.next in let out : mark.numbers.out ≡ tickets_out b = is.1.out in
-      let full : 2 ^ 48 < next_number b + tickets_out b + 2 = is.0 in omega arith),
-)
-room_mark lb b room.NoMemory is = tt
-
-pub more_mark : (lb : ℕ) (e : RoomError MarkNote) → IsRoomMark lb 1 e → IsRoomMark lb 2 e
-more_mark lb (room.Full mark) is = (is.0, (let full : 2 ^ 48 < mark.numbers.next + mark.numbers.out + 1 = is.1 in omega arith))
-more_mark lb room.NoMemory is = tt
-
 pub admin_mark : (lb : ℕ) (b : Journal) (c : Command) (e : AdminError MarkNote) → IsCommandedAt {T = ℕ} lb b c (Err e) → IsAdminMark lb e
 admin_mark lb b c admin.UnknownMember is = tt
 admin_mark lb b c admin.BadValue is = tt

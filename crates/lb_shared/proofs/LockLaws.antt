@@ -216,12 +216,6 @@ cuts_when sizes firsts cut_at lb books books' (Some cut) are within cuts when = 
   legal = cuts.legal;
 }
 
--- The first half of a hold that takes a lease back: it cut if due, but where memory was wanted.
-pub first_cut : {E : Type 0} (books mid : List Journal) (lb : ℕ) (cut : Result (Option (ℕ × Segment)) E) → IfOk cut (λ s. CutsFirst books mid lb s)
-    → OnErr cut (mid ≡ books) → CutsFirst books mid lb (cut_in cut)
-first_cut books mid lb (Ok cut) ok err = ok
-first_cut books mid lb (Err e) ok err = err
-
 pub cuts_or_wants : {E : Type 0} (sizes firsts : List ℕ) (cut_at lb : ℕ) (books mid : List Journal) (cut : Result (Option (ℕ × Segment)) E) → AreSited sizes firsts books
     → lb < length books → IfOk cut (λ s. CutsFirst books mid lb s)
     → IfOk cut (λ s. At books lb (λ b. IsSome s ↔ ((0 < cut_at) × (cut_at ≤ length b.entries)))) → CutsOrWants sizes cut_at lb (cut_in cut) (IsErr cut)

@@ -29,13 +29,6 @@ total-le (suc n) f g le =
     let last : f n ≤ g n = le n (omega arith) in
     omega arith
 
-pub total-agree : (n : ℕ) (f g : ℕ → ℕ) → ((m : ℕ) → m < n → f m ≡ g m) → total n f ≡ total n g
-total-agree zero f g same = refl
-total-agree (suc n) f g same =
-    let rest : total n f ≡ total n g = total-agree n f g (λ m lt. same m (omega arith)) in
-    let last : f n ≡ g n = same n (omega arith) in
-    omega arith
-
 total-zero : (n : ℕ) (f : ℕ → ℕ) → ((m : ℕ) → m < n → f m ≡ 0) → total n f ≡ 0
 total-zero zero f none = refl
 total-zero (suc n) f none =

@@ -1,5 +1,5 @@
 -- What a seat has seen after a hold of the Site's lock.
-use Rattle.std.proofs.Common.{◌≡◌, ℕ, true, false, List, [], ◌∷◌, ◌++◌, Option, Some, None, sym, ap, ◌∙◌, subst, inl, inr}
+use Rattle.std.proofs.Common.{◌≡◌, ℕ, true, false, List, [], ◌∷◌, ◌++◌, Option, Some, None, sym, ap, ◌∙◌, subst}
 use Rattle.atomic_table.specs.Seated.{TableId}
 use Rattle.atomic_table.specs.Table.{Me, rest}
 use Rattle.lb_model.specs.declared.journal.Entry.{Entry}
@@ -8,7 +8,7 @@ use Rattle.lb_book.specs.Journal.{Journal}
 use Rattle.lb_shared.specs.Seats.{IsClaim, IsToldLast, Took, by_seat, caught_up, seated}
 use Rattle.lb_shared.specs.declared.view.Claim.{Claim}
 use Rattle.lb_shared.specs.declared.view.View.{View}
-use Rattle.lb_shared.specs.Histories.{DeskMaySee, DeskSees, IsResting, IsSiteHistory, SeatMaySee, SeatSees, number_of, seat_note, seen_of}
+use Rattle.lb_shared.specs.Histories.{DeskSees, IsResting, IsSiteHistory, SeatSees, number_of, seat_note, seen_of}
 use mathlib.Core.Option.{some}
 use lib.ListN.{get_elem?}
 
@@ -79,20 +79,6 @@ module _ {S : Type 0} (starts : List Opening) (books_of : S → List Journal) (n
       seen_last me2 left = subst (λ (l : List (ℕ × (ℕ × Entry))). IsSiteHistory starts l (books_of new))
           (sym (ap (λ (m : M). seen_of m.0) (left (number_of me.0) took.log new written_is))) grown
 
--- What a desk tells of its seat after a hold, or after none.
-pub may_rest : {S : Type 0} (starts : List Opening) (old new : Me (Option S) (View (ℕ × Entry))) (gained : List (ℕ × Entry)) (W : Type 0) → IsResting old
-    → SeatMaySee starts old new gained W → IsResting new
-may_rest {S} starts old new gained W rests may =
-    elim may [ inl sees ↦ sees.rests | inr none ↦ subst (λ (m : Me (Option S) (View (ℕ × Entry))). IsResting m) (sym none.0) rests ]
-
 pub desk_sees : {S : Type 0} (starts : List Opening) (lock lock' : TableId) (old new : Me (Option S) (View (ℕ × Entry))) (gained : List (ℕ × Entry)) → lock' ≡ lock
     → SeatSees starts old new gained → DeskSees starts (seat_note lock old) (seat_note lock' new) gained
 desk_sees starts lock lock' old new gained same sees = record { lock = same; number = sees.number; sees = sees.sees }
-
-pub desk_may_see : {S : Type 0} (starts : List Opening) (lock lock' : TableId) (old new : Me (Option S) (View (ℕ × Entry))) (gained : List (ℕ × Entry)) (W : Type 0) → lock' ≡ lock
-    → SeatMaySee starts old new gained W → DeskMaySee starts (seat_note lock old) (seat_note lock' new) gained W
-desk_may_see starts lock lock' old new gained W same may =
-    elim may [
-      | inl sees ↦ inl (desk_sees starts lock lock' old new gained same sees)
-      | inr none ↦ inr (ap (λ (l : TableId). seat_note l new) same ∙ ap (λ m. seat_note lock m) none.0, none.1, none.2)
-    ]

@@ -431,20 +431,6 @@ kept_command n rs rs' h parts parts' a a' room room' gained few same roomy f is 
     let two : length gained.0 ≤ 2 = gained.3 in
     shared_more n rs rs' h h parts parts' a a' f room room' gained.0 is gained.1 gained.2 few same is.known (omega arith)
 
--- Nothing was done.
-pub shared_none : (n : ℕ) (rs rs' : List Receipt) (h h' : List (ℕ × ℕ)) (parts a f room room' : ℕ) → rs' ≡ rs → h' ≡ h → room ≤ room' → IsShared n rs h parts a f room
-    → IsShared n rs' h' parts a f room'
-shared_none n rs rs' h h' parts a f room room' same same_held more is =
-    subst (λ (xs : List Receipt). IsShared n xs h' parts a f room') (sym same)
-    (subst (λ (xs : List (ℕ × ℕ)). IsShared n rs xs parts a f room') (sym same_held)
-    (record {
-      part = is.part;
-      counted = is.counted;
-      few = is.few;
-      known = is.known;
-      roomy = let roomy : length rs + length h ≤ room = is.roomy in omega arith;
-    }))
-
 pub none_desk : (sizes : List ℕ) (parts : ℕ) (rs rs' : List Receipt) (h h' : List (ℕ × ℕ)) (a s f w f' w' : ℕ) (m : Option Stray) (lb session at : ℕ) (wanting : Type 0) (account : Journal → List Receipt → Type 0)
     → rs' ≡ rs → wanting → GainsDue (shared_desk sizes parts rs h a s f w m) (shared_desk sizes parts rs' h' a s f' w' m) lb session at wanting account
 none_desk sizes parts rs rs' h h' a s f w f' w' m lb session at wanting account same wants = record {

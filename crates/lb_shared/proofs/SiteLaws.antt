@@ -11,7 +11,7 @@ use Rattle.std.proofs.Math.Seq.{map-set_same}
 use Rattle.lb_model.specs.Choice.{IsPick}
 use Rattle.lb_model.specs.Free.{is_in}
 use Rattle.lb_model.specs.Journal.{is_maintain, maintained_of, members, moment_of}
-use Rattle.lb_model.specs.Legal.{IsLegalPast, IsNext}
+use Rattle.lb_model.specs.Legal.{IsNext}
 use Rattle.lb_model.specs.Tickets.{out}
 use Rattle.lb_model.specs.declared.ask.Ask.{Ask}
 use Rattle.lb_model.specs.declared.change.Command.{Command}
@@ -35,10 +35,9 @@ use Rattle.lb_book.specs.Journal.{AddsEntry, IsFullUnless, IsSound, Journal, nex
 use Rattle.lb_book.specs.PlainDesks.{AreLegal, AreModern}
 use Rattle.lb_book.specs.Leases.{IsLeaseOf}
 use Rattle.lb_book.specs.declared.book.Lease.{Lease}
-use Rattle.lb_book.specs.ToldBooks.{IsNoneDue, grown_by, sizes_of}
-use Rattle.lb_book.specs.declared.receipt.Receipt.{Receipt}
+use Rattle.lb_book.specs.ToldBooks.{IsNoneDue, sizes_of}
 use Rattle.lb_book.proofs.PlainLaws.{legal-hold, modern-hold, size-at}
-use Rattle.lb_book.proofs.ToldLaws.{get-set, get-set_other, past-one, set-found, some_is}
+use Rattle.lb_book.proofs.ToldLaws.{get-set, get-set_other, some_is}
 use Rattle.lb_shared.specs.Notes.{lease_at, lease_of, marked_admin, marked_room}
 use Rattle.lb_shared.specs.SiteAnswers.{IsCommandedAt, IsMaintenanceAt, IsRoomAt}
 use Rattle.lb_shared.specs.Sites.{AddsAt, AreNumbered, AreSited, At, added_in, nexts_of}
@@ -85,20 +84,6 @@ sited-hold sizes firsts books lb old new k are here same rules sound next more =
   few = let same_length : length (slice_set books lb new) ≡ length books = length-set books lb new in
       let before : length books ≤ 1024 = are.few in omega arith;
 }
-
--- After an entry.
-pub next-grown : (b : Journal) (r : Receipt) → next_number (grown_by b (r ∷ [])) ≡ next_number b + 1
-next-grown b r =
-    let past : length (past_of (grown_by b (r ∷ []))) ≡ suc (length (past_of b)) = ap (λ (p : List Entry). length p) (past-one b r) in
-    omega arith
-
-pub sound-grown : (b : Journal) (r : Receipt) → IsSound b → IsNext b.rules b.opening (past_of b) r.entry → IsSound (grown_by b (r ∷ []))
-sound-grown b r sound next = subst (λ (p : List Entry). IsLegalPast b.rules b.opening p) (sym (past-one b r)) (next, sound)
-
-pub sited-grown : (sizes firsts : List ℕ) (books : List Journal) (lb : ℕ) (old : Journal) (r : Receipt) → AreSited sizes firsts books → slice_get books lb ≡ Some old
-    → IsNext old.rules old.opening (past_of old) r.entry → AreSited sizes firsts (slice_set books lb (grown_by old (r ∷ [])))
-sited-grown sizes firsts books lb old r are here next =
-    sited-hold sizes firsts books lb old (grown_by old (r ∷ [])) 1 are here refl refl (sound-grown old r (are.sound lb old here) next) (next-grown old r) refl
 
 -- A fact of each place of a list.
 by_places : {A : Type 0} (P : A → Type 0) (xs : List A) → ((i : ℕ) (x : A) → slice_get xs i ≡ Some x → P x) → ByRecursion P xs
@@ -179,13 +164,6 @@ kept_cut sizes firsts books lb old new total is here cut sound =
       (let before : total ≡ added_in books = is.0 in omega arith),
       sited-hold sizes firsts books lb old new 0 is.1 here cut.ending.count cut.rules sound next more,
     )
-
--- A call that left the Book as it was.
-pub kept_same : (sizes firsts : List ℕ) (books : List Journal) (lb : ℕ) (old new : Journal) (total : ℕ) → (total ≡ added_in books) × AreSited sizes firsts books
-    → slice_get books lb ≡ Some old → new ≡ old → (total ≡ added_in (slice_set books lb new)) × AreSited sizes firsts (slice_set books lb new)
-kept_same sizes firsts books lb old new total is here same =
-    subst (λ (xs : List Journal). (total ≡ added_in xs) × AreSited sizes firsts xs)
-    (sym (ap (λ (b : Journal). slice_set books lb b) same ∙ set-found books lb old here)) is
 
 -- A chosen member is one of the balancer's, and wasn't tried.
 pub chosen_known : (sizes firsts : List ℕ) (books : List Journal) (lb : ℕ) (old new : Journal) (session at : ℕ) (ask : Ask) (e : Entry) (a : Answer) → e.answer ≡ a

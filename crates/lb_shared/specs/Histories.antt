@@ -81,10 +81,6 @@ pub record SeatSees {S : Type 0} (starts : List Opening) (old new : Me (Option S
   pub number : number_of new.0 ≡ number_of old.0
   pub sees : SeesHold starts (number_of old.0) (seen_of old.0) (seen_of new.0) gained
 
--- A hold of the lock by this seat; or none was made, and there is this reason.
-abbrev pub SeatMaySee : {S : Type 0} → List Opening → (old new : Me (Option S) (View (ℕ × Entry))) → (gained : List (ℕ × Entry)) → (Wanting : Type 0) → Type 0
-SeatMaySee starts old new gained Wanting = SeatSees starts old new gained ⊎ ((new ≡ old) × (gained ≡ []) × Wanting)
-
 -- What is told of a desk's seat: at which lock it is, its number, and the history that it has seen.
 pub record SeatNote : Type 0 where
   pub lock : TableId

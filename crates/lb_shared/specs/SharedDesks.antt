@@ -15,7 +15,7 @@ use Rattle.lb_book.specs.ToldBooks.{IsFound}
 use Rattle.lb_book.specs.declared.desk.Choice.{Choice}
 use Rattle.lb_book.specs.declared.desk.Choice.TheVariants as choice
 use Rattle.lb_book.specs.declared.receipt.Receipt.{Receipt}
-use Rattle.lb_shared.specs.Histories.{SeatNote, no_seat}
+use Rattle.lb_shared.specs.Histories.{SeatNote}
 use Rattle.lb_shared.specs.Notes.{MarkNote, StrayNote}
 use Rattle.lb_shared.specs.Shelves.{ShelfNote}
 
@@ -32,10 +32,6 @@ pub record SharedState (S : Type 0) : Type 0 where
 -- What is told of its shelf.
 abbrev pub shelf_note : {S : Type 0} → (S → Option (List (ℕ × Segment))) → (S → ℕ) → SharedState S → ShelfNote
 shelf_note shelved faults d = record { shelved = shelved d.shelf; faults = faults d.shelf; wants = d.wants; forgotten = d.forgotten }
-
--- A desk but for its seat, which is nowhere.
-abbrev pub unseated : {S : Type 0} → SharedState S → SharedState S
-unseated d = record d { seat = no_seat }
 
 -- what each desk tells of a stray, which doesn't name its balancer
 abbrev pub stray_in : Option StrayNote → Option Stray
