@@ -1,3 +1,4 @@
+pub mod Descriptors
 pub mod Files
 pub use Rattle.gear_parts.specs.Gears
 pub mod Notices
