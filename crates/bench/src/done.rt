@@ -1,4 +1,4 @@
-//! What a piece of work came to, and how it is told.
+//! The amount and the figures of a piece of work, and how they are told.
 
 use std::io;
 use std::time::Instant;

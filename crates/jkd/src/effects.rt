@@ -1,4 +1,4 @@
-//! What of the files of `serve` has no effect, said before it serves.
+//! Remarks on the files of `serve`, said before it serves.
 
 use crate::ahead_files::{Ahead, ahead_of};
 use crate::demo::no_input;

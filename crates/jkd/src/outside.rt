@@ -1,4 +1,4 @@
-//! What was read of the words, done over a world and the system's files and streams.
+//! The order that was read, done over the system's files and streams and a world.
 use crate::ahead_files::{Ahead, AheadFiles};
 use crate::telling::{asks_stop, reason, tell};
 use gear_worlds::{Trouble, World};

@@ -1,4 +1,4 @@
-//! What a person reads on standard error once a command ended.
+//! The last words on standard error, once a command ended.
 use crate::write_sink::WriteSink;
 use jk_cli::{Order, WordsError};
 use jk_io::NoMemory;

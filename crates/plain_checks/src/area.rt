@@ -1,4 +1,4 @@
-//! What the rows are about.
+//! The area of the plain commands: the subject of their rows.
 
 use crate::{plain, values};
 use anyhow::Result;

@@ -1,4 +1,4 @@
-//! What is told of a row, piece by piece.
+//! The text of a row's outcome, piece by piece.
 use jk_io::{Bytes, NoMemory, put_decimal};
 use std::alloc::Global;
 

@@ -1,4 +1,4 @@
-//! What a person is told of a command that ended.
+//! The remarks on a row's command, once it ended.
 use crate::plain::{do_words, files_of, input_of};
 use crate::row_text::RowText;
 use check_rows::row::{BlockRow, RowError};

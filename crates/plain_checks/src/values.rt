@@ -1,4 +1,4 @@
-//! What is done with a row that has a kind.
+//! Rows that have a kind.
 //!
 //! `mount`: the rule of the map `m`, over the workers `w`, that the input takes as its path, and its terms.
 //! `find`: the worker of `w` that the input names, and its members' secrets.

@@ -1,4 +1,4 @@
-//! What is done with a row of words.
+//! Rows of words.
 //!
 //! `words`: the order that the words are, or `no command`, and where the help's command doesn't take it.
 //! `help`: the text that the words ask for.

@@ -1,4 +1,4 @@
-//! What `check` prints of a journal's text.
+//! `check`: the verdict on a journal's text, printed.
 ghost use Rattle.std.specs.Prelude.{◌≡◌, ◌≤◌, length, IfOk};
 ghost use Rattle.journal_verdict.specs.Told.{verdict_text};
 ghost use Rattle.plain_commands.specs.Checked.{ChecksText, status_for, unreadable_text};

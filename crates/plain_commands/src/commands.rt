@@ -1,4 +1,4 @@
-//! What each plain command prints of what it reads.
+//! The output of each plain command, from the texts that it read.
 ghost use Rattle.std.specs.Prelude.{◌≡◌, ◌≤◌, ◌⊎◌, [], ◌∷◌, length, Some, None, true, codes, IfOk, IsErrOf};
 ghost use Rattle.jk_cli.specs.declared.order.Order.TheVariants as order;
 ghost use Rattle.jk_io.specs.Told.{Rose};

@@ -1,4 +1,4 @@
-//! What `follow` prints of a journal's text.
+//! `follow`: the balancer of a journal's text, printed.
 ghost use Rattle.std.specs.Prelude.{◌≡◌, ℕ, List, Option, true, IfOk};
 ghost use Rattle.journal_verdict.specs.Followed.{IsOpened};
 ghost use Rattle.journal_verdict.specs.Machines.{HasFed, is_going};

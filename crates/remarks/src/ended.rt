@@ -1,4 +1,4 @@
-//! What a person is told of a command that ended.
+//! Remarks on a command that ended, by its status.
 ghost use Rattle.std.specs.Prelude.{◌≡◌, ◌≢◌, [], IfOk, IsOk, None, Some, true};
 ghost use Rattle.jk_io.specs.Told.{HasCause};
 ghost use Rattle.remarks.specs.Added.{AddsSaid, AddsText};

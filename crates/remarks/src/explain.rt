@@ -1,4 +1,4 @@
-//! What is said of a refused line: in words what is wrong with it, and the line as it stands.
+//! A refused line explained: in words what is wrong with it, and the line as it stands.
 ghost use Rattle.std.specs.Prelude.{◌≡◌, ◌++◌, codes, OnOk};
 ghost use Rattle.site_config.specs.Refusals.{LineRefusal};
 ghost use Rattle.remarks.specs.Explained.{explained_workers, line_at, map_words, said_of, told_of, workers_words};

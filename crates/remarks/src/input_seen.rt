@@ -1,4 +1,4 @@
-//! What is known of an input.
+//! A look at an input: how much it gave, and whether a read failed.
 
 /// What is known of an input.
 #[derive(Clone, Copy)]

@@ -1,11 +1,11 @@
-//! What a person is told of a site's files and of a command that ended: the word, the file or the line at fault, why lines are refused,
+//! Remarks to a person, on a site's files and on a command that ended: the word, the file or the line at fault, why lines are refused,
 //! and what has no effect.
 //!
 //! Source: own rules (docs/FORMATS.md, "What a person is told"); which directives have an effect in mod_jk: its reference,
 //! "workers.properties" and "uriworkermap.properties".
 //! Shapes: `KeptFiles` and `CountedInput` go round the files and the input of a command, and `remarks_on` is called once it
 //! ended. Nothing here changes what the command reads, writes or answers.
-//! Contract: `site_remarks`; read specs/Remarks.antt first, then specs/Refused.antt, Explained.antt, Notices.antt, MapNotices.antt.
+//! Contract: `site_remarks`. Read first: specs/Remarks.antt, then specs/Refused.antt, Explained.antt, Notices.antt, MapNotices.antt.
 //! `remarks_on`, a clause for each status, and `cause`; `KeptFiles` and `CountedInput` are read as what they go round, and keep
 //! what a read gave (clauses `kept` and `seen`): specs/Told.antt, then specs/Seen.antt.
 //! Errors: a write that failed, only where the sink's count of faults rose, and want of memory.

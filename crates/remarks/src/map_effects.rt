@@ -1,4 +1,4 @@
-//! What is said of a map that is accepted: what in it has no effect, and what it means where it has no rule.
+//! Remarks on a map that is accepted: the parts without effect, and a map without a rule.
 ghost use Rattle.std.specs.Prelude.{◌≡◌, ℕ, List, IfOk, IsOk};
 ghost use Rattle.jk_io.specs.Told.{HasCause};
 ghost use Rattle.site_config.specs.declared.values.WorkerKind.{WorkerKind};

@@ -1,4 +1,4 @@
-//! What in a uriworkermap.properties has no effect.
+//! Notices of a map's parts that have no effect.
 ghost use Rattle.std.specs.Prelude.{◌≡◌, ◌++◌, ◌≤◌, ℕ, List, length, IsOk, OnOk};
 ghost use Rattle.jk_io.specs.Decimals.{trimmed};
 ghost use Rattle.jk_io.specs.Told.{HasCause};

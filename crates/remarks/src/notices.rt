@@ -1,4 +1,4 @@
-//! What a site of mod_jk would expect to have effect, and hasn't.
+//! Notices of lines that a site of mod_jk would expect to have effect, and that have none.
 ghost use Rattle.std.specs.Prelude.{◌≡◌, ◌≤◌, ◌++◌, ℕ, List, Ok, Option, length, true, IsOk, OnOk};
 ghost use Rattle.std.specs.Option.{option_map};
 ghost use Rattle.site_config.specs.declared.values.WorkerKind.{WorkerKind};

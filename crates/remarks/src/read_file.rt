@@ -1,4 +1,4 @@
-//! What is kept of one read.
+//! A file that was read, as it is kept for the remarks.
 ghost use Rattle.std.specs.Prelude.{◌≤◌, length};
 ghost use Rattle.std.specs.Option.{ForSome};
 ghost use Rattle.jk_io.specs.declared.whole_input.TheConstants.{MAX_INPUT_BYTES};

@@ -1,4 +1,4 @@
-//! What a person reads of a site's files: why they are refused, and what of those that are accepted has no effect.
+//! Remarks on a site's files: why they are refused, and what of those that are accepted has no effect.
 ghost use Rattle.std.specs.Prelude.{◌≡◌, List, Ok, true, IfSome, IsOk};
 ghost use Rattle.std.specs.Option.{option_map};
 ghost use Rattle.jk_io.specs.Told.{HasCause};

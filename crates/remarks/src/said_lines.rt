@@ -1,4 +1,4 @@
-//! What the lines of a workers.properties say that was accepted.
+//! Lines of a workers.properties that was accepted, read once more for the remarks.
 ghost use Rattle.std.specs.Prelude.{◌≡◌, Option, IfOk};
 ghost use Rattle.std.specs.Option.{option_map};
 ghost use Rattle.site_config.specs.declared.property.Property.{Property};

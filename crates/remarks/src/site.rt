@@ -1,4 +1,4 @@
-//! What is told of the files of a site that a command read.
+//! Remarks on the files of a site that a command read.
 ghost use Rattle.std.specs.Prelude.{◌≡◌, IfSome, IsOk};
 ghost use Rattle.std.specs.Option.{option_map};
 ghost use Rattle.jk_cli.specs.Orders.{command_of};

@@ -1,4 +1,4 @@
-//! What is told of a command's words that the parser of the help takes, and that are no command.
+//! Remarks on a command's words that the parser of the help takes, and that are no command.
 use clap::ArgMatches;
 use jk_cli::usage_of;
 use jk_io::{NoMemory, parse_decimal};

@@ -1,4 +1,4 @@
-//! What the value of a line must be, by the directive that its key gives.
+//! The values that a line may have, in words, by the directive of its key.
 ghost use Rattle.std.specs.Prelude.{◌≡◌};
 ghost use Rattle.remarks.specs.Wanted.{key_in, wanted_at, wanted_by, wanted_of};
 

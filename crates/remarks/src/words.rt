@@ -1,4 +1,4 @@
-//! What is told where the words are no command.
+//! Remarks on words that are no command.
 ghost use Rattle.std.specs.Prelude.{IfOk};
 ghost use Rattle.remarks.specs.Told.{IsLine};
 

@@ -1,4 +1,4 @@
-//! What the words of a row ask for, done over memory.
+//! The order of a row, done over memory.
 use gear_worlds::MemWorld;
 use jk_cli::{Order, read_words};
 use jk_commands::{let_go, run_jkd};

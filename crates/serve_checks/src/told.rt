@@ -1,4 +1,4 @@
-//! What is told of a world after a command.
+//! The outcome of a world after a command, as words.
 use gear_worlds::{MemGear, MemWorld};
 use jk_io::{Bytes, MemLink, NoMemory, Talk, put_decimal};
 use journal_text::write_segment;
