@@ -1,7 +1,16 @@
--- What is told of the real world's shelves: how often one failed, and where its segments go.
-use Rattle.std.specs.Prelude.{◌≡◌, ℕ, List, Option, Some, None}
+-- What is told of the real world while a gear is made ready, and of its shelves: how often one failed, and where its segments go.
+use Rattle.std.specs.Prelude.{◌≡◌, ℕ, List, Option, Some, None, Result, IsOk}
+use Rattle.jk_io.specs.Told.{HasCause}
+use Rattle.jk_io.specs.declared.failures.IoError.{IoError}
+use Rattle.gear_worlds.specs.declared.real_world.WorldCounts.{WorldCounts}
 use Rattle.gear_worlds.specs.declared.shelves.RealShelf.{RealShelf}
 use Rattle.gear_worlds.specs.declared.shelves.RealShelf.TheVariants as shelf_is
+
+-- What a gear needs is made ready, while as many gears are out as before. It fails only where the world's faults rose.
+pub record Readies {T : Type 0} (before after : WorldCounts) (result : Result T IoError) : Type 0 where
+  pub cause : HasCause before.failed after.failed result
+  pub steady : IsOk result → after.failed ≡ before.failed
+  pub same : after.out ≡ before.out
 
 abbrev pub shelf_faults : {R F D : Type 0} → RealShelf R F D → ℕ
 shelf_faults (shelf_is.Files shelf) = shelf.failed

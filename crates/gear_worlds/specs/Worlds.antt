@@ -1,8 +1,11 @@
 -- What contracts see of a world in memory, and which gear it hands out.
-use Rattle.std.specs.Prelude.{ℕ, List, [], ◌∷◌, Option, Some, None, take}
+use Rattle.std.specs.Prelude.{◌≡◌, ◌↔◌, ℕ, List, [], ◌∷◌, Option, Some, None, Result, Contains, IsErrOf, IsOk, take}
 use Rattle.jk_io.specs.MemDoors.{MemDoorState}
-use Rattle.jk_io.specs.Memory.{MemDialState, MemLinkState}
+use Rattle.jk_io.specs.Memory.{MemDialState, MemLinkState, counted}
 use Rattle.jk_io.specs.TalkBooks.{TalkBookState}
+use Rattle.jk_io.specs.Told.{HasCause}
+use Rattle.jk_io.specs.declared.failures.IoError.{IoError}
+use Rattle.jk_io.specs.declared.failures.IoError.TheVariants as io
 use Rattle.lb_shared.specs.Shelves.{MemShelfState}
 use Rattle.gear_worlds.specs.declared.mem_plan.MemPlan.{MemPlan}
 use Rattle.gear_parts.specs.declared.world.Gear.{Gear}
@@ -22,6 +25,14 @@ pub record MemWorldState (L : Type 0) : Type 0 where
   pub failing : List ℕ
   pub calls : ℕ
   pub faults : ℕ
+
+-- A call was counted. It fails exactly where it is told to, and where memory is wanted, which is no fault.
+pub record CallsAsTold {L T : Type 0} (before after : MemWorldState L) (result : Result T IoError) : Type 0 where
+  pub failed : IsErrOf result io.Failed ↔ Contains before.failing before.calls
+  pub calls : after.calls ≡ counted before.calls
+  pub cause : HasCause before.faults after.faults result
+  pub steady : IsOk result → after.faults ≡ before.faults
+  pub quiet : before.failing ≡ [] → after.faults ≡ before.faults
 
 -- the first `most` items, where a most is given
 abbrev pub at_most : {T : Type 0} → Option ℕ → List T → List T

@@ -1,7 +1,7 @@
 //! A world in memory.
-ghost use Rattle.std.specs.Prelude.{◌≡◌, ◌↔◌, ◌+◌, ◌<◌, ◌≤◌, [], ◌∷◌, ◌++◌, Contains, IfOk, IsErrOf, IsOk, IsTrue, OnErr, OnOk, drop, length, map, reverse, true, false, vec_capacity, vec_len};
+ghost use Rattle.std.specs.Prelude.{◌≡◌, ◌↔◌, ◌+◌, ◌<◌, ◌≤◌, [], ◌∷◌, ◌++◌, Contains, IfOk, IsTrue, OnErr, OnOk, drop, length, map, reverse, true, false, vec_capacity, vec_len};
 ghost use Rattle.jk_io.specs.Memory.{DialledNext, counted};
-ghost use Rattle.jk_io.specs.Told.{HasCause, Rose};
+ghost use Rattle.jk_io.specs.Told.{Rose};
 ghost use Rattle.gear_worlds.specs.Worlds.{gear_of, next_plan};
 
 use crate::mem_plan::{MemGear, MemPlan, MemPlanList, gear_of};
@@ -181,6 +181,7 @@ fn hand_out<L: Drop>(
 
 impl<L: Link + Drop + Send> World for MemWorld<L> {
     ghost use Rattle.std.specs.Prelude.{Some};
+    ghost use Rattle.gear_worlds.specs.Worlds.{CallsAsTold};
 
     type D = MemDoor<L>;
 
@@ -215,13 +216,7 @@ impl<L: Link + Drop + Send> World for MemWorld<L> {
         ensures one_more { OnOk result (self.new.out ≡ self.old.out + 1) }
         ensures err { OnErr result ((self.new.plans ≡ self.old.plans) × (self.new.handed ≡ self.old.handed) × (self.new.out ≡ self.old.out)) }
         ensures same { (self.new.back ≡ self.old.back) × (self.new.logs ≡ self.old.logs) × (self.new.failing ≡ self.old.failing) }
-
-        // It fails exactly at the calls that it was told.
-        ensures failed { IsErrOf result IoError.Failed ↔ Contains self.old.failing self.old.calls }
-        ensures counted { self.new.calls ≡ counted self.old.calls }
-        ensures cause { HasCause self.old.faults self.new.faults result }
-        ensures steady { IsOk result → self.new.faults ≡ self.old.faults }
-        ensures quiet { self.old.failing ≡ [] → self.new.faults ≡ self.old.faults }
+        ensures call { CallsAsTold self.old self.new result }
     {
         if self.call_fails() {
             return Err(IoError::Failed);
@@ -235,13 +230,7 @@ impl<L: Link + Drop + Send> World for MemWorld<L> {
         ensures err { OnErr result (self.new.logs ≡ self.old.logs) }
         ensures same { (self.new.plans ≡ self.old.plans) × (self.new.handed ≡ self.old.handed) × (self.new.back ≡ self.old.back)
             × (self.new.out ≡ self.old.out) × (self.new.failing ≡ self.old.failing) }
-
-        // It fails exactly at the calls that it was told.
-        ensures failed { IsErrOf result IoError.Failed ↔ Contains self.old.failing self.old.calls }
-        ensures counted { self.new.calls ≡ counted self.old.calls }
-        ensures cause { HasCause self.old.faults self.new.faults result }
-        ensures steady { IsOk result → self.new.faults ≡ self.old.faults }
-        ensures quiet { self.old.failing ≡ [] → self.new.faults ≡ self.old.faults }
+        ensures call { CallsAsTold self.old self.new result }
     {
         if self.call_fails() {
             return Err(IoError::Failed);

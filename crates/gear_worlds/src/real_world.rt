@@ -1,8 +1,7 @@
 //! The real world: sockets, files and the system's clock.
-ghost use Rattle.std.specs.Prelude.{◌≡◌, ◌+◌, ◌<◌, ◌≤◌, IfOk, IsErrOf, IsOk, IsSome, None, OnErr, OnOk, map};
+ghost use Rattle.std.specs.Prelude.{◌≡◌, ◌+◌, ◌<◌, ◌≤◌, IfOk, IsErrOf, IsSome, None, map};
 ghost use Rattle.std.specs.Option.{option_copied, option_map};
-ghost use Rattle.jk_io.specs.Told.{HasCause, Rose};
-ghost use Rattle.gear_worlds.specs.Files.{worker_file};
+ghost use Rattle.jk_io.specs.Told.{Rose};
 ghost use Rattle.gear_worlds.specs.RealDoors.{door_clients};
 
 use crate::descriptors::fitting;
@@ -47,23 +46,28 @@ pub struct RealWorld<
     turns: Option<SegmentTurns>,
     /// Where the clients of a container come.
     listener: Option<TcpListener>,
-    /// How many gears are out.
-    out: u64,
+    counts: WorldCounts,
     /// What failed first.
     trouble: Option<Trouble>,
+    ghost known: { trouble ≡ None → counts.failed ≡ 0 },
+}
+
+/// How many gears are out, and how many calls failed.
+#[derive(Drop)]
+struct WorldCounts {
+    out: u64,
     failed: u64,
-    ghost known: { trouble ≡ None → failed ≡ 0 },
 }
 
 impl<
     'r,
     R: Net<Stream = TcpStream, Listener = TcpListener> + Files + Clock + Wait + Eprint,
 > RealWorld<'r, R> {
-    ghost use Rattle.gear_worlds.specs.Real.{IsShelfFor};
+    ghost use Rattle.gear_worlds.specs.Real.{IsShelfFor, Readies};
 
     /// A world with no socket yet. With the last of `threads` gears it says on standard error where it listens.
     pub fn new(rt: &'r R, threads: u32) -> RealWorld<'r, R>
-        ensures { (result.threads ≡ threads) × (result.out ≡ 0) × (result.failed ≡ 0) }
+        ensures { (result.threads ≡ threads) × (result.counts ≡ record { out = 0; failed = 0 }) }
     {
         RealWorld {
             rt,
@@ -72,16 +76,15 @@ impl<
             notices: None,
             turns: None,
             listener: None,
-            out: 0,
+            counts: WorldCounts { out: 0, failed: 0 },
             trouble: None,
-            failed: 0,
         }
     }
 
     /// What failed first, for a person to read.
     pub fn trouble(&self) -> Option<&Trouble>
         ensures first { option_copied result ≡ self.now.trouble }
-        ensures some { 0 < self.now.failed → IsSome result }
+        ensures some { 0 < self.now.counts.failed → IsSome result }
     {
         self.trouble.as_ref()
     }
@@ -108,22 +111,20 @@ impl<
     // Counts a failure, and keeps the first one's reason.
     fn fail(&mut self, trouble: Trouble) -> IoError
         ensures error { result ≡ IoError.Failed }
-        ensures rose { Rose self.old.failed self.new.failed × (self.old.failed ≤ self.new.failed) }
+        ensures rose { Rose self.old.counts.failed self.new.counts.failed × (self.old.counts.failed ≤ self.new.counts.failed) }
         ensures first { IsSome self.old.trouble → self.new.trouble ≡ self.old.trouble }
-        ensures same { self.new.out ≡ self.old.out }
+        ensures same { self.new.counts.out ≡ self.old.counts.out }
     {
         if self.trouble.is_none() {
             self.trouble = Some(trouble);
         }
-        self.failed = self.failed.saturating_add(1);
+        self.counts.failed = self.counts.failed.saturating_add(1);
         IoError::Failed
     }
 
     // A handle of the socket, which is opened unless it is open.
     fn listener(&mut self, alloc: Global, address: &Bytes) -> Result<TcpListener, IoError>
-        ensures cause { HasCause self.old.failed self.new.failed result }
-        ensures steady { IsOk result → self.new.failed ≡ self.old.failed }
-        ensures same { self.new.out ≡ self.old.out }
+        ensures { Readies self.old.counts self.new.counts result }
     {
         match listen(self.rt, &mut self.listener, address) {
             Ok(listener) => Ok(listener),
@@ -136,9 +137,7 @@ impl<
 
     // Looks whether the directory of a journal can be written.
     fn try_dir(&mut self, alloc: Global, dir: &Bytes) -> Result<(), IoError>
-        ensures cause { HasCause self.old.failed self.new.failed result }
-        ensures steady { IsOk result → self.new.failed ≡ self.old.failed }
-        ensures same { self.new.out ≡ self.old.out }
+        ensures { Readies self.old.counts self.new.counts result }
     {
         let path = trial_path(dir)?;
         if let Err(reason) = make_and_remove(self.rt, &path) {
@@ -150,9 +149,7 @@ impl<
 
     // Looks whether the files with which the balancers' journals begin can be new.
     fn try_names(&mut self, alloc: Global, dir: &Bytes, lbs: &[Lb]) -> Result<(), IoError>
-        ensures cause { HasCause self.old.failed self.new.failed result }
-        ensures steady { IsOk result → self.new.failed ≡ self.old.failed }
-        ensures same { self.new.out ≡ self.old.out }
+        ensures { Readies self.old.counts self.new.counts result }
     {
         match taken(self.rt, dir, lbs)? {
             None => Ok(()),
@@ -165,9 +162,7 @@ impl<
 
     // The room, which is opened unless it is open.
     fn room(&mut self, alloc: Global, asked: &GearOrder<'_>) -> Result<Arc<Room>, IoError>
-        ensures cause { HasCause self.old.failed self.new.failed result }
-        ensures steady { IsOk result → self.new.failed ≡ self.old.failed }
-        ensures same { self.new.out ≡ self.old.out }
+        ensures { Readies self.old.counts self.new.counts result }
     {
         if let Some(room) = &self.room {
             return Ok(Arc::try_clone(room)?);
@@ -180,7 +175,7 @@ impl<
 
     // A share of what is said of members.
     fn notices(&mut self, alloc: Global, cfg: Option<&Config>) -> Result<Notices, NoMemory>
-        ensures { (self.new.out ≡ self.old.out) × (self.new.failed ≡ self.old.failed) }
+        ensures { self.new.counts ≡ self.old.counts }
     {
         if let Some(notices) = &self.notices {
             return notices.share();
@@ -196,7 +191,7 @@ impl<
 
     // A share of how far the journals are in files.
     fn turns(&mut self, alloc: Global, balancers: usize) -> Result<SegmentTurns, NoMemory>
-        ensures { (self.new.out ≡ self.old.out) × (self.new.failed ≡ self.old.failed) }
+        ensures { self.new.counts ≡ self.old.counts }
     {
         if let Some(turns) = &self.turns {
             return turns.share();
@@ -209,9 +204,7 @@ impl<
 
     // Opens the room, with no more clients that wait than there are descriptors for.
     fn new_room(&mut self, alloc: Global, asked: &GearOrder<'_>) -> Result<Arc<Room>, IoError>
-        ensures cause { HasCause self.old.failed self.new.failed result }
-        ensures steady { IsOk result → self.new.failed ≡ self.old.failed }
-        ensures same { self.new.out ≡ self.old.out }
+        ensures { Readies self.old.counts self.new.counts result }
     {
         let limits = fitting(self.rt, self.threads, asked.cfg, asked.limits);
         match open_room(
@@ -229,10 +222,10 @@ impl<
 
     // Why the room isn't there.
     fn refused(&mut self, alloc: Global, asked: &GearOrder<'_>, error: OpenRoomError) -> IoError
-        ensures failed { (result ≡ IoError.Failed) → Rose self.old.failed self.new.failed }
-        ensures wanted { (result ≡ IoError.NoMemory) → self.new.failed ≡ self.old.failed }
-        ensures no_fewer { self.old.failed ≤ self.new.failed }
-        ensures same { self.new.out ≡ self.old.out }
+        ensures failed { (result ≡ IoError.Failed) → Rose self.old.counts.failed self.new.counts.failed }
+        ensures wanted { (result ≡ IoError.NoMemory) → self.new.counts.failed ≡ self.old.counts.failed }
+        ensures no_fewer { self.old.counts.failed ≤ self.new.counts.failed }
+        ensures same { self.new.counts.out ≡ self.old.counts.out }
     {
         let trouble = match error {
             OpenRoomError::Listen(reason) => listen_trouble(alloc, asked.address, reason),
@@ -275,7 +268,7 @@ impl<
         journal: Option<&Bytes>,
         cfg: Option<&Config>,
     ) -> Result<RealShelf<'r, R>, NoMemory>
-        ensures same { (self.new.out ≡ self.old.out) × (self.new.failed ≡ self.old.failed) }
+        ensures same { self.new.counts ≡ self.old.counts }
         ensures shelf { IfOk result (λ shelf. IsShelfFor (option_copied journal.entry) (option_map (λ c. map (λ lb. lb.name) c.lbs) (option_copied cfg.entry)) shelf) }
     {
         let (Some(dir), Some(cfg)) = (journal, cfg) else {
@@ -290,9 +283,7 @@ impl<
 
     // Looks whether a journal can be written in a directory, and its first files can be new.
     fn try_journal(&mut self, alloc: Global, dir: &Bytes, lbs: &[Lb]) -> Result<(), IoError>
-        ensures cause { HasCause self.old.failed self.new.failed result }
-        ensures steady { IsOk result → self.new.failed ≡ self.old.failed }
-        ensures same { self.new.out ≡ self.old.out }
+        ensures { Readies self.old.counts self.new.counts result }
     {
         self.try_dir(alloc, dir)?;
         self.try_names(alloc, dir, lbs)
@@ -300,9 +291,7 @@ impl<
 
     // Opens the room or the socket unless it is open.
     fn open(&mut self, alloc: Global, asked: &GearOrder<'_>) -> Result<(), IoError>
-        ensures cause { HasCause self.old.failed self.new.failed result }
-        ensures steady { IsOk result → self.new.failed ≡ self.old.failed }
-        ensures same { self.new.out ≡ self.old.out }
+        ensures { Readies self.old.counts self.new.counts result }
     {
         if asked.cfg.is_some() {
             self.room(alloc, asked)?;
@@ -314,9 +303,7 @@ impl<
 
     // Looks whether the directory of the logs can be written.
     fn try_logs(&mut self, alloc: Global, dir: &Bytes) -> Result<(), IoError>
-        ensures cause { HasCause self.old.failed self.new.failed result }
-        ensures steady { IsOk result → self.new.failed ≡ self.old.failed }
-        ensures same { self.new.out ≡ self.old.out }
+        ensures { Readies self.old.counts self.new.counts result }
     {
         let path = trial_path(dir)?;
         if let Err(reason) = make_and_remove(self.rt, &path) {
@@ -333,9 +320,7 @@ impl<
         number: u32,
         asked: &GearOrder<'_>,
     ) -> Result<(), IoError>
-        ensures cause { HasCause self.old.failed self.new.failed result }
-        ensures steady { IsOk result → self.new.failed ≡ self.old.failed }
-        ensures same { self.new.out ≡ self.old.out }
+        ensures { Readies self.old.counts self.new.counts result }
     {
         if number != 0 {
             return Ok(());
@@ -352,9 +337,7 @@ impl<
     // What is done once for all gears: the room or the socket is opened, with the first gear it is tried whether a journal and
     // logs can be written, and with the last it is said where clients are waited for.
     fn greet(&mut self, alloc: Global, number: u32, asked: &GearOrder<'_>) -> Result<(), IoError>
-        ensures cause { HasCause self.old.failed self.new.failed result }
-        ensures steady { IsOk result → self.new.failed ≡ self.old.failed }
-        ensures same { self.new.out ≡ self.old.out }
+        ensures { Readies self.old.counts self.new.counts result }
     {
         self.open(alloc, asked)?;
         self.try_first(alloc, number, asked)?;
@@ -371,9 +354,7 @@ impl<
         asked: &GearOrder<'_>,
     ) -> Result<(RealDoor<'r, R>, TcpDial<'r, R>), IoError>
         ensures clients { IfOk result (λ made. door_clients made.0 ≡ asked.now.clients) }
-        ensures cause { HasCause self.old.failed self.new.failed result }
-        ensures steady { IsOk result → self.new.failed ≡ self.old.failed }
-        ensures same { self.new.out ≡ self.old.out }
+        ensures step { Readies self.old.counts self.new.counts result }
     {
         if asked.cfg.is_some() {
             let room = self.room(alloc, asked)?;
@@ -394,9 +375,7 @@ impl<
         ensures unlogged { IfOk result (λ gear. gear.log ≡ None) }
         ensures clients { IfOk result (λ gear. door_clients gear.door ≡ asked.now.clients) }
         ensures shelf { IfOk result (λ gear. gear.shelf ≡ shelf.entry) }
-        ensures cause { HasCause self.old.failed self.new.failed result }
-        ensures steady { IsOk result → self.new.failed ≡ self.old.failed }
-        ensures same { self.new.out ≡ self.old.out }
+        ensures step { Readies self.old.counts self.new.counts result }
     {
         let (door, dial) = self.door_and_dial(alloc, asked)?;
         Ok(Gear {
@@ -418,9 +397,7 @@ impl<
         ensures unlogged { IfOk result (λ gear. gear.log ≡ None) }
         ensures clients { IfOk result (λ gear. door_clients gear.door ≡ asked.now.clients) }
         ensures shelf { IfOk result (λ gear. IsShelfFor (option_copied asked.now.journal) (option_map (λ c. map (λ lb. lb.name) c.lbs) (option_copied asked.now.cfg)) gear.shelf) }
-        ensures cause { HasCause self.old.failed self.new.failed result }
-        ensures steady { IsOk result → self.new.failed ≡ self.old.failed }
-        ensures same { self.new.out ≡ self.old.out }
+        ensures step { Readies self.old.counts self.new.counts result }
     {
         let shelf = self.shelf(alloc, asked.journal, asked.cfg)?;
         self.gear_with(alloc, asked, shelf)
@@ -561,9 +538,9 @@ where
 
     ghost came_back = { λ _. None };
 
-    ghost out = { λ w. w.out };
+    ghost out = { λ w. w.counts.out };
 
-    ghost faults = { λ w. w.failed };
+    ghost faults = { λ w. w.counts.failed };
 
     // its door takes as many clients as are wanted, and the journal that is wanted is written
     ghost suits = { λ number wanted cfg gear. (door_clients gear.door ≡ wanted.clients)
@@ -577,24 +554,13 @@ where
         alloc: Global,
         number: u32,
         asked: &GearOrder<'_>,
-    ) -> Result<RealGear<'r, R>, IoError>
-        ensures one_more { OnOk result (self.new.out ≡ self.old.out + 1) }
-        ensures unlogged { IfOk result (λ gear. gear.log ≡ None) }
-
-        // Its door takes as many clients as it is told, and a journal that is to be kept is written.
-        ensures clients { IfOk result (λ gear. door_clients gear.door ≡ asked.now.clients) }
-        ensures shelf { IfOk result (λ gear. IsShelfFor (option_copied asked.now.journal) (option_map (λ c. map (λ lb. lb.name) c.lbs) (option_copied asked.now.cfg)) gear.shelf) }
-
-        ensures err { OnErr result (self.new.out ≡ self.old.out) }
-        ensures cause { HasCause self.old.failed self.new.failed result }
-        ensures steady { IsOk result → self.new.failed ≡ self.old.failed }
-    {
-        let Some(out) = self.out.checked_add(1) else {
+    ) -> Result<RealGear<'r, R>, IoError> {
+        let Some(out) = self.counts.out.checked_add(1) else {
             return Err(self.fail(Trouble::TooMany));
         };
         self.greet(alloc, number, asked)?;
         let gear = self.worker_gear(alloc, asked)?;
-        self.out = out;
+        self.counts.out = out;
         Ok(gear)
     }
 
@@ -603,12 +569,7 @@ where
         alloc: Global,
         dir: &Bytes,
         number: u32,
-    ) -> Result<FileLog<'r, R::File, R>, IoError>
-        ensures made { IfOk result (λ log. log.path ≡ worker_file dir.now number) }
-        ensures cause { HasCause self.old.failed self.new.failed result }
-        ensures steady { IsOk result → self.new.failed ≡ self.old.failed }
-        ensures same { self.new.out ≡ self.old.out }
-    {
+    ) -> Result<FileLog<'r, R::File, R>, IoError> {
         let path = log_path(dir, number)?;
         let notices = self.notices(alloc, None)?;
         match open_log(self.rt, &path) {
@@ -621,11 +582,11 @@ where
     }
 
     fn back(&mut self, gear: RealGear<'r, R>)
-        requires out { 0 < self.old.out }
-        ensures one_less { self.new.out + 1 ≡ self.old.out }
-        ensures same { self.new.failed ≡ self.old.failed }
+        requires out { 0 < self.old.counts.out }
+        ensures one_less { self.new.counts.out + 1 ≡ self.old.counts.out }
+        ensures same { self.new.counts.failed ≡ self.old.counts.failed }
     {
-        self.out -= 1;
+        self.counts.out -= 1;
         let Gear {
             door,
             dial: _,
