@@ -3,7 +3,7 @@ use Rattle.std.specs.Prelude.{Option}
 use Rattle.std.specs.Option.{option_map}
 use Rattle.jk_io.specs.Moments.{Moment}
 use Rattle.conn_pool.specs.Reaches.{BackState}
-use Rattle.conn_pool.specs.declared.lent.Idle.{Idle}
+use Rattle.conn_pool.specs.declared.idle.Idle.{Idle}
 use Rattle.conn_pool.specs.declared.pool.HandedIn.{HandedIn}
 
 -- `at` is what a link tells
@@ -11,6 +11,7 @@ abbrev pub back_of : {L : Type 0} → (at : L → Moment) → Option (HandedIn (
 back_of at back = option_map (λ b. record {
   lb = b.link.value.lb;
   member = b.link.value.member;
-  link = at b.link.value.link;
+  link = at b.link.value.link.value;
+  looks = b.link.value.looks;
   home = option_map (λ at. (at.lb, at.member)) b.home;
 }) back

@@ -5,6 +5,7 @@ use Rattle.jk_io.specs.Moments.{Moment, moment}
 use Rattle.jk_io.specs.declared.traits.streams.Meanings.{Ghosts}
 use Rattle.conn_pool.specs.declared.fate.Fate.{Fate}
 use Rattle.conn_pool.specs.declared.fate.Fate.TheVariants as fate
+use Rattle.conn_pool.specs.declared.idle.Idle.{Idle}
 use Rattle.conn_pool.specs.declared.report.WatchReport.{WatchReport}
 use Rattle.conn_pool.specs.Pings.{AnswersPing, FailsPing}
 
@@ -16,38 +17,39 @@ abbrev pub Answers : Option ℕ → Moment → Moment → Type 0
 Answers None s n = n ≡ s
 Answers (Some millis) s n = AnswersPing s n
 
--- a kept link has one look more
-pub record IsKept {A X : Type 0} (told : Ghosts A X) (looks : A → ℕ) (limit : ℕ) (ping : Option ℕ) (link kept : A) : Type 0 where
-  pub young : looks link < limit
-  pub one_more : looks kept ≡ looks link + 1
-  pub answers : Answers ping (at told link) (at told kept)
-  pub same : told.beside kept ≡ told.beside link
+-- a kept link is its member's as before, and has one look more
+pub record IsKept {L X : Type 0} (told : Ghosts L X) (limit : ℕ) (ping : Option ℕ) (idle kept : Idle L) : Type 0 where
+  pub young : idle.looks < limit
+  pub one_more : kept.looks ≡ idle.looks + 1
+  pub whose : (kept.lb ≡ idle.lb) × (kept.member ≡ idle.member)
+  pub answers : Answers ping (at told idle.link.value) (at told kept.link.value)
+  pub same : told.beside kept.link.value ≡ told.beside idle.link.value
 
 -- a dead link was pinged, and didn't answer
-pub record IsDead {A X : Type 0} (told : Ghosts A X) (looks : A → ℕ) (limit : ℕ) (ping : Option ℕ) (link : A) : Type 0 where
-  pub young : looks link < limit
+pub record IsDead {L X : Type 0} (told : Ghosts L X) (limit : ℕ) (ping : Option ℕ) (idle : Idle L) : Type 0 where
+  pub young : idle.looks < limit
   pub pinged : IsSome ping
   pub after : Moment
-  pub fails : FailsPing (at told link) after
+  pub fails : FailsPing (at told idle.link.value) after
 
 -- memory was wanted while a link was pinged
-pub record IsWanted {A : Type 0} (looks : A → ℕ) (limit : ℕ) (ping : Option ℕ) (link : A) : Type 0 where
-  pub young : looks link < limit
+pub record IsWanted {L : Type 0} (limit : ℕ) (ping : Option ℕ) (idle : Idle L) : Type 0 where
+  pub young : idle.looks < limit
   pub pinged : IsSome ping
 
 -- With the looks of before and this one above the limit a link is aged, and no call of it is made.
-abbrev pub HasFate : {A X : Type 0} → Ghosts A X → (A → ℕ) → ℕ → Option ℕ → A → Fate A → Type 0
-HasFate told looks limit ping link fate.Aged = limit < looks link + 1
-HasFate told looks limit ping link fate.Dead = IsDead told looks limit ping link
-HasFate told looks limit ping link fate.Wanted = IsWanted looks limit ping link
-HasFate told looks limit ping link (fate.Kept kept) = IsKept told looks limit ping link kept
+abbrev pub HasFate : {L X : Type 0} → Ghosts L X → ℕ → Option ℕ → Idle L → Fate (Idle L) → Type 0
+HasFate told limit ping idle fate.Aged = limit < idle.looks + 1
+HasFate told limit ping idle fate.Dead = IsDead told limit ping idle
+HasFate told limit ping idle fate.Wanted = IsWanted limit ping idle
+HasFate told limit ping idle (fate.Kept kept) = IsKept told limit ping idle kept
 
 -- each link has its fate
-abbrev pub HaveFates : {A X : Type 0} → Ghosts A X → (A → ℕ) → ℕ → Option ℕ → List A → List (Fate A) → Type 0
-HaveFates told looks limit ping [] [] = Unit {0}
-HaveFates told looks limit ping [] (f ∷ fates) = ⊥
-HaveFates told looks limit ping (link ∷ links) [] = ⊥
-HaveFates told looks limit ping (link ∷ links) (f ∷ fates) = HasFate told looks limit ping link f × HaveFates told looks limit ping links fates
+abbrev pub HaveFates : {L X : Type 0} → Ghosts L X → ℕ → Option ℕ → List (Idle L) → List (Fate (Idle L)) → Type 0
+HaveFates told limit ping [] [] = Unit {0}
+HaveFates told limit ping [] (f ∷ fates) = ⊥
+HaveFates told limit ping (idle ∷ links) [] = ⊥
+HaveFates told limit ping (idle ∷ links) (f ∷ fates) = HasFate told limit ping idle f × HaveFates told limit ping links fates
 
 abbrev pub kept_by : {A : Type 0} → Fate A → List A
 kept_by fate.Aged = []
@@ -100,8 +102,8 @@ pub record IsBelow (report : WatchReport) : Type 0 where
   pub kept : report.kept < 4294967295
 
 -- The links were looked at: those that are kept, in their order, and how many had which fate.
-pub record IsJudged {A X : Type 0} (told : Ghosts A X) (looks : A → ℕ) (limit : ℕ) (ping : Option ℕ) (links kept : List A) (report : WatchReport) : Type 0 where
-  pub fates : List (Fate A)
-  pub each : HaveFates told looks limit ping links fates
+pub record IsJudged {L X : Type 0} (told : Ghosts L X) (limit : ℕ) (ping : Option ℕ) (links kept : List (Idle L)) (report : WatchReport) : Type 0 where
+  pub fates : List (Fate (Idle L))
+  pub each : HaveFates told limit ping links fates
   pub those : kept ≡ kept_of fates
   pub counts : report ≡ report_of fates

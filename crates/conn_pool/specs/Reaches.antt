@@ -20,12 +20,13 @@ pub record LentState (L : Type 0) : Type 0 where
   pub began : ℕ
   pub faulty : Bool
 
--- a link that was given back: whose it is, what it told then, and in whose pool it is idle, as lb and member; in none
--- where it was closed, since the pool was full
+-- a link that was given back: whose it is, what it told then, the looks since its last talk, and in whose pool it is idle, as
+-- lb and member; in none where it was closed, since the pool was full
 pub record BackState : Type 0 where
   pub lb : ℕ
   pub member : ℕ
   pub link : Moment
+  pub looks : ℕ
   pub home : Option (ℕ × ℕ)
 
 -- a reach's dial and tape, the link of the running talk, the link that the last finish handed to a pool, the number of
@@ -80,6 +81,8 @@ pub record GoesBack {L : Type 0} (lent : LentState L) (keep : Bool) (back : Opti
   pub whose : IfSome back (λ b. (b.lb ≡ lent.lb) × (b.member ≡ lent.member))
   pub same : IfSome back (λ b. b.link ≡ lent.link)
   pub sound : IfSome back (λ b. b.link.faults ≡ lent.began)
+  -- its idle time begins
+  pub used : IfSome back (λ b. b.looks ≡ 0)
   -- no link is idle in another member's pool
   pub home : IfSome back (λ b. IfSome b.home (λ at. at ≡ (lent.lb, lent.member)))
 

@@ -7,15 +7,18 @@ ghost use Rattle.conn_pool.specs.Idle.{HasMember};
 ghost use Rattle.conn_pool.specs.Reaches.{told_begun};
 
 use crate::beginning::{begin_new, dialled};
+use crate::idle::Idle;
 use crate::keeping::Pools;
-use crate::lent::{Idle, Lent};
+use crate::lent::Lent;
 use crate::tape::Tape;
 use jk_io::{Bytes, IoError, Link};
+use std::alloc::Global;
 use std::sync::Wait;
 
 /// What a talk is begun with.
 #[derive(Clone, Copy)]
 pub(crate) struct Asked<'h> {
+    pub(crate) alloc: Global,
     pub(crate) lb: u32,
     pub(crate) member: u32,
     pub(crate) host: &'h Bytes,

@@ -6,8 +6,9 @@ ghost use Rattle.conn_pool.specs.Idle.{HasMember};
 ghost use Rattle.conn_pool.specs.Reaches.{told_begun};
 
 use crate::asked::Asked;
+use crate::idle::Idle;
 use crate::keeping::Pools;
-use crate::lent::{Idle, Lent};
+use crate::lent::Lent;
 use crate::noted::counted;
 use crate::tape::Tape;
 use jk_io::{IoError, Link, NoMemory};
@@ -85,7 +86,8 @@ pub(crate) fn dialled<L: Drop, T: Tape>(
     counted(answer, failed)
 }
 
-/// Begins a talk over a link that was dialled for it. Where the talk can't be noted, the link is closed.
+/// Begins a talk over a link that was dialled for it, which gets the place where it stays. Where there is no memory for that or
+/// for the note of the talk, the link is closed.
 pub(crate) fn begin_new<L: Link + Drop, T: Tape, R: Wait>(
     pools: &Pools<'_, Idle<L>, R>,
     tape: &mut T,
@@ -95,6 +97,7 @@ pub(crate) fn begin_new<L: Link + Drop, T: Tape, R: Wait>(
 ) -> Result<(), NoMemory>
     requires known { HasMember pools.now asked.now.lb asked.now.member }
     requires idle { T.is_idle tape.old }
+    requires empty { IsEmpty (T.sent tape.old) × IsEmpty (T.received tape.old) }
     requires none { lent.old ≡ None }
     ensures there { is_some lent.new ≡ is_ok result }
     ensures whose { IfSome lent.new (λ new. (new.lb ≡ asked.now.lb) × (new.member ≡ asked.now.member)) }
@@ -107,6 +110,7 @@ pub(crate) fn begin_new<L: Link + Drop, T: Tape, R: Wait>(
     ensures empty { IsEmpty (T.sent tape.new) × IsEmpty (T.received tape.new) }
     ensures same { T.talks tape.new ≡ T.talks tape.old }
 {
+    let link = Box::new(asked.alloc, link)?;
     if asked.fresh {
         close_idle(pools, asked.lb, asked.member);
     }
@@ -134,7 +138,7 @@ fn idle_link<L: Link + Drop, R: Wait>(
     requires { HasMember pools.now lb member }
     ensures fresh { fresh ≡ true → result ≡ None }
     ensures whose { IfSome result (λ idle. (idle.lb ≡ lb) × (idle.member ≡ member)) }
-    ensures quiet { IfSome result (λ idle. (kept : L) × L.found_quiet kept idle.link) }
+    ensures quiet { IfSome result (λ idle. (kept : L) × L.found_quiet kept idle.link.value) }
 {
     if fresh {
         return None;

@@ -6,27 +6,27 @@ ghost use Rattle.conn_pool.specs.Judging.{HasFate, IsBelow, IsJudged, counted, k
 use crate::fate::Fate;
 use crate::ping::{Pinged, ping};
 use crate::report::WatchReport;
-use crate::{Aged, LinkList};
+use crate::{Idle, LinkList};
+use jk_io::Link;
 use std::collections::VecDeque;
 
 /// What becomes of a link that may stay idle for at most `limit` looks, and that is pinged where milliseconds for the answer
 /// are given.
-fn fate_of<A: Aged + Drop>(mut link: A, limit: u32, millis: Option<u64>) -> Fate<A>
-    ensures { HasFate A.Meanings A.looks limit millis link result }
+fn fate_of<L: Link + Drop>(mut idle: Idle<L>, limit: u32, millis: Option<u64>) -> Fate<Idle<L>>
+    ensures { HasFate L.Meanings limit millis idle result }
 {
-    let looks = link.looks();
-    if limit <= looks {
+    if limit <= idle.looks {
         return Fate::Aged;
     }
     if let Some(millis) = millis {
-        match ping(&mut link, millis) {
+        match ping(&mut *idle.link, millis) {
             Pinged::Answered => {}
             Pinged::Dead => return Fate::Dead,
             Pinged::Wanted => return Fate::Wanted,
         }
     }
-    link.set_looks(looks + 1);
-    Fate::Kept(link)
+    idle.looks += 1;
+    Fate::Kept(idle)
 }
 
 /// Counts what became of a link, and puts it after the others where it is kept.
@@ -51,13 +51,13 @@ where
 
 /// Looks at idle links in turn: those that were idle for more than `limit` looks with this one are closed, and the others
 /// pinged where milliseconds for their answer are given. It gives back those that are kept, and takes no memory.
-pub fn judge<A: Aged + Drop>(
-    links: LinkList<A>,
+pub fn judge<L: Link + Drop>(
+    links: LinkList<Idle<L>>,
     limit: u32,
     ping: Option<u64>,
-) -> (LinkList<A>, WatchReport)
+) -> (LinkList<Idle<L>>, WatchReport)
     requires { length links < 2 ^ 32 }
-    ensures judged { IsJudged A.Meanings A.looks limit ping links result.0 result.1 }
+    ensures judged { IsJudged L.Meanings limit ping links result.0 result.1 }
     ensures few { length result.0 ≤ length links }
 {
     let mut report = WatchReport::none();

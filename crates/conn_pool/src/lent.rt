@@ -1,51 +1,13 @@
-//! The link of a running talk, and an idle link between its talks. Each tells its balancer and member.
-ghost use Rattle.std.specs.Prelude.{◌≡◌, ◌<◌, ◌≤◌, ◌↔◌, true, false, None, IsSome, IsTrue, IfOk, IfSome, OnOk, OnErr, length};
+//! The link of a running talk. It tells its balancer and member.
+ghost use Rattle.std.specs.Prelude.{◌≡◌, ◌<◌, ◌≤◌, true, false, None, IsSome, IfOk, IfSome, OnOk, OnErr, length};
 ghost use Rattle.jk_io.specs.Moments.{moment};
 ghost use Rattle.jk_io.specs.Told.{HasCause};
 ghost use Rattle.conn_pool.specs.Reaches.{ReadsLink, WritesLink};
 
-use crate::pool::Home;
+use crate::idle::Idle;
 use jk_io::{Awaited, IoError, Link};
 use std::marker::Model;
 use std::snapshot::Snapshot;
-
-/// A link between its talks, with its balancer and member. The end of a talk makes one, and no other call does.
-#[derive(Drop)]
-pub struct Idle<L> {
-    pub(crate) lb: u32,
-    pub(crate) member: u32,
-    pub(crate) link: L,
-}
-
-impl<L> Idle<L> {
-    /// Whether the link is one of this member.
-    pub(crate) fn is_of(&self, lb: u32, member: u32) -> bool
-        ensures { IsTrue result ↔ (self.now.lb ≡ lb) × (self.now.member ≡ member) }
-    {
-        self.lb == lb && self.member == member
-    }
-
-    /// Where the link belongs.
-    pub(crate) fn home(&self) -> Home
-        ensures { (result.lb ≡ self.now.lb) × (result.member ≡ self.now.member) }
-    {
-        Home {
-            lb: self.lb,
-            member: self.member,
-        }
-    }
-}
-
-impl<L: Link> Idle<L> {
-    /// Whether no byte came and the other end didn't close, as far as can be seen without waiting.
-    pub(crate) fn is_quiet(&mut self) -> bool
-        ensures found { result ≡ true → L.found_quiet self.old.link self.new.link }
-        ensures whose { (self.new.lb ≡ self.old.lb) × (self.new.member ≡ self.old.member) }
-        ensures same { moment L.incoming L.received L.sent L.faults self.new.link ≡ moment L.incoming L.received L.sent L.faults self.old.link }
-    {
-        self.link.is_quiet()
-    }
-}
 
 /// A link while a talk runs over it, with its balancer and member. The link comes out by `kept` alone.
 #[derive(Drop)]
@@ -54,7 +16,7 @@ pub(crate) struct Lent<L: Link + Drop> {
     member: u32,
     /// The talk's begin dialled it.
     dialled: bool,
-    link: L,
+    link: Box<L>,
     /// A call of the link was refused in this talk.
     faulty: bool,
     /// The link as it was when the talk began.
@@ -73,44 +35,49 @@ impl<L: Link + Drop> Model for Lent<L> {
       member = l.member;
       dialled = l.dialled;
       given = l.began.value;
-      link = moment L.incoming L.received L.sent L.faults l.link;
+      link = moment L.incoming L.received L.sent L.faults l.link.value;
       began = L.faults l.began.value;
       faulty = l.faulty;
     } };
 
-    ghost invariant = { λ l. l.faulty ≡ false → L.faults l.link ≡ L.faults l.began.value };
+    ghost invariant = { λ l. l.faulty ≡ false → L.faults l.link.value ≡ L.faults l.began.value };
 }
 
 impl<L: Link + Drop> Lent<L> {
     /// A link that this talk's begin dialled for a member.
-    pub(crate) fn over_new(lb: u32, member: u32, link: L) -> Lent<L>
+    pub(crate) fn over_new(lb: u32, member: u32, link: Box<L>) -> Lent<L>
         ensures whose { (result.lb ≡ lb) × (result.member ≡ member) }
-        ensures link { (result.dialled ≡ true) × (result.given ≡ link) }
+        ensures link { (result.dialled ≡ true) × (result.given ≡ link.value) }
         ensures begins { (result.link.faults ≡ result.began) × (result.faulty ≡ false) }
     {
         Lent::over(lb, member, true, link)
     }
 
     pub(crate) fn link(&self) -> &L {
-        &self.link
+        &*self.link
     }
 
     /// A link that was idle.
     pub(crate) fn over_idle(idle: Idle<L>) -> Lent<L>
         ensures whose { (result.lb ≡ idle.lb) × (result.member ≡ idle.member) }
-        ensures link { (result.dialled ≡ false) × (result.given ≡ idle.link) }
+        ensures link { (result.dialled ≡ false) × (result.given ≡ idle.link.value) }
         ensures begins { (result.link.faults ≡ result.began) × (result.faulty ≡ false) }
     {
-        let Idle { lb, member, link } = idle;
+        let Idle {
+            lb,
+            member,
+            link,
+            looks: _,
+        } = idle;
         Lent::over(lb, member, false, link)
     }
 
-    fn over(lb: u32, member: u32, dialled: bool, link: L) -> Lent<L>
+    fn over(lb: u32, member: u32, dialled: bool, link: Box<L>) -> Lent<L>
         ensures whose { (result.lb ≡ lb) × (result.member ≡ member) }
-        ensures link { (result.dialled ≡ dialled) × (result.given ≡ link) }
+        ensures link { (result.dialled ≡ dialled) × (result.given ≡ link.value) }
         ensures begins { (result.link.faults ≡ result.began) × (result.faulty ≡ false) }
     {
-        let began = Snapshot::of(&link);
+        let began = Snapshot::of(&*link);
         Lent {
             lb,
             member,
@@ -192,14 +159,16 @@ impl<L: Link + Drop> Lent<L> {
         ensures closed { keep ≡ false → result ≡ None }
         ensures faulty { self.faulty ≡ true → result ≡ None }
         ensures whose { IfSome result (λ idle. (idle.lb ≡ self.lb) × (idle.member ≡ self.member)) }
-        ensures same { IfSome result (λ idle. moment L.incoming L.received L.sent L.faults idle.link ≡ self.link) }
-        ensures sound { IfSome result (λ idle. L.faults idle.link ≡ self.began) }
+        ensures same { IfSome result (λ idle. moment L.incoming L.received L.sent L.faults idle.link.value ≡ self.link) }
+        ensures sound { IfSome result (λ idle. L.faults idle.link.value ≡ self.began) }
+        ensures used { IfSome result (λ idle. idle.looks ≡ 0) }
     {
         if keep && !self.faulty {
             return Some(Idle {
                 lb: self.lb,
                 member: self.member,
                 link: self.link,
+                looks: 0,
             });
         }
         None

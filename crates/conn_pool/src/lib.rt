@@ -11,12 +11,10 @@
 //! Errors: those of the dial and the links; want of memory, after which every link that the watch took is back in its pool.
 #![tactic(auto)]
 
-mod aged_dial;
-mod aged_link;
-mod aging;
 mod asked;
 mod beginning;
 mod fate;
+mod idle;
 mod judging;
 mod keeping;
 mod lent;
@@ -31,12 +29,9 @@ mod tape;
 mod watch;
 mod watched_reach;
 
-pub use aged_dial::AgedDial;
-pub use aged_link::AgedLink;
-pub use aging::Aged;
+pub use idle::Idle;
 pub use judging::judge;
 pub use keeping::Pools;
-pub use lent::Idle;
 pub use pool::{HandedIn, Home, LinkList, Pool};
 pub use pooled::PooledReach;
 pub use report::WatchReport;

@@ -10,8 +10,9 @@ ghost use Rattle.conn_pool.specs.Reaches.{beside_of, told_begun, FlushesLink, Go
 
 use crate::asked::{Asked, begin_dialled};
 use crate::beginning::begin_idle;
+use crate::idle::Idle;
 use crate::keeping::Pools;
-use crate::lent::{Idle, Lent};
+use crate::lent::Lent;
 use crate::noted::{flush_lent, outside_talk, read_lent, write_lent};
 use crate::pool::HandedIn;
 use crate::tape::Tape;
@@ -275,6 +276,7 @@ impl<'p, 'r, D: Dial, T: Tape, R: Wait> Reach for PooledReach<'p, 'r, D, T, R> {
         ensures want_of_memory { IsErrOf result IoError.NoMemory → self.new.faults ≡ self.old.faults }
     {
         let asked = Asked {
+            alloc,
             lb,
             member,
             host,

@@ -3,7 +3,6 @@ ghost use Rattle.std.specs.Prelude.{◌≡◌, ◌<◌, ◌^◌, length, IfOk, I
 ghost use Rattle.conn_pool.specs.Idle.{counts, HasMember};
 ghost use Rattle.conn_pool.specs.Looks.{IsDue, ends_of};
 
-use crate::aged_link::AgedLink;
 use crate::judging::judge;
 use crate::member_look::{limit_of, ping_of};
 use crate::report::WatchReport;
@@ -27,7 +26,7 @@ pub struct Watch {
 /// The pools of a site, its members, and what its watch was before this look.
 #[derive(Drop)]
 struct Looked<'a, 'p, 'r, L, R> {
-    pools: &'a Pools<'r, Idle<AgedLink<L>>, R>,
+    pools: &'a Pools<'r, Idle<L>, R>,
     cfg: &'p Config,
     watch: Watch,
     now: u64,
@@ -102,7 +101,7 @@ fn look_at_all<L: Link + Drop, R: Wait>(
 /// were taken before are back.
 pub fn watch_if_due<L: Link + Drop, R: Wait>(
     alloc: Global,
-    pools: &Pools<'_, Idle<AgedLink<L>>, R>,
+    pools: &Pools<'_, Idle<L>, R>,
     cfg: &Config,
     watch: &mut Watch,
     now: u64,

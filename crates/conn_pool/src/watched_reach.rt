@@ -5,8 +5,6 @@ ghost use Rattle.conn_pool.specs.Idle.{counts};
 ghost use Rattle.conn_pool.specs.Looks.{ends_of};
 ghost use Rattle.conn_pool.specs.Watched.{LooksAt, RestsAt};
 
-use crate::aged_dial::AgedDial;
-use crate::aged_link::AgedLink;
 use crate::watch::{Watch, watch_if_due};
 use crate::{Idle, PooledReach, Pools, Tape};
 use jk_io::{Awaited, Beside, Bytes, Dial, IoError, Link, Meanings, NoMemory, Reach, Sink, Source};
@@ -15,11 +13,11 @@ use std::alloc::Global;
 use std::marker::Model;
 use std::sync::Wait;
 
-/// A reach over pools of links that count looks, and the watch over these pools, if there is one.
+/// A pooled reach, and the watch over its pools, if there is one.
 #[derive(Drop)]
 pub struct WatchedReach<'p, 'r, D: Dial, T: Tape, R> {
-    reach: PooledReach<'p, 'r, AgedDial<D>, T, R>,
-    pools: &'p Pools<'r, Idle<AgedLink<D::L>>, R>,
+    reach: PooledReach<'p, 'r, D, T, R>,
+    pools: &'p Pools<'r, Idle<D::L>, R>,
     cfg: &'p Config,
     watch: Option<Watch>,
     ghost every: { ForSome watch (λ w. 0 < w.every) },
@@ -28,9 +26,8 @@ pub struct WatchedReach<'p, 'r, D: Dial, T: Tape, R> {
 
 impl<'p, 'r, D: Dial, T: Tape, R> Model for WatchedReach<'p, 'r, D, T, R> {
     ghost use Rattle.conn_pool.specs.Watched.{WatchedState};
-    ghost use Rattle.conn_pool.specs.declared.aged_link.AgedLink.{AgedLink as AnyAged};
 
-    ghost Value = { WatchedState D T (AnyAged D.L) };
+    ghost Value = { WatchedState D T D.L };
 
     ghost view = { λ w. record { pooled = w.reach; watch = w.watch } };
 }
@@ -38,7 +35,7 @@ impl<'p, 'r, D: Dial, T: Tape, R> Model for WatchedReach<'p, 'r, D, T, R> {
 impl<'p, 'r, D: Dial, T: Tape, R> WatchedReach<'p, 'r, D, T, R> {
     /// A reach over these pools of this site's members, and its watch, if any. No memory is taken.
     pub fn new(
-        pools: &'p Pools<'r, Idle<AgedLink<D::L>>, R>,
+        pools: &'p Pools<'r, Idle<D::L>, R>,
         dial: D,
         tape: T,
         cfg: &'p Config,
@@ -51,7 +48,7 @@ impl<'p, 'r, D: Dial, T: Tape, R> WatchedReach<'p, 'r, D, T, R> {
         ensures watch { result.watch ≡ watch }
     {
         WatchedReach {
-            reach: PooledReach::new(pools, AgedDial::new(dial), tape),
+            reach: PooledReach::new(pools, dial, tape),
             pools,
             cfg,
             watch,
@@ -69,8 +66,7 @@ impl<'p, 'r, D: Dial, T: Tape, R> WatchedReach<'p, 'r, D, T, R> {
             cfg: _,
             watch: _,
         } = self;
-        let (dial, tape) = reach.into_parts();
-        (dial.into_dial(), tape)
+        reach.into_parts()
     }
 }
 
@@ -162,7 +158,7 @@ impl<'p, 'r, D: Dial, T: Tape, R: Wait> Reach for WatchedReach<'p, 'r, D, T, R> 
 /// Looks at the idle links of all members, if it is time.
 fn look<L: Link + Drop, R: Wait>(
     alloc: Global,
-    pools: &Pools<'_, Idle<AgedLink<L>>, R>,
+    pools: &Pools<'_, Idle<L>, R>,
     cfg: &Config,
     watch: &mut Watch,
     now: u64,

@@ -10,7 +10,6 @@ use Rattle.lb_shared.specs.SharedDesks.{SharedState, shared_desk}
 use Rattle.lb_shared.specs.declared.shared_desk.Leaving.{Leaving}
 use Rattle.lb_shared.specs.declared.site.SiteName.{Ghosts as SiteGhosts}
 use Rattle.conn_pool.specs.Watched.{WatchedState}
-use Rattle.conn_pool.specs.declared.aged_link.AgedLink.{AgedLink}
 use Rattle.conn_pool.specs.declared.watch.Watch.{Watch}
 use Rattle.request_log.specs.LogStates.{LogState}
 use Rattle.request_log.specs.declared.format.Part.{Part as FormatPart}
@@ -59,7 +58,7 @@ start_of lock sizes pools watch format gear = record {
 }
 
 -- the same by what all workers ask, at a site of these sizes
-abbrev pub start_by : {L D G T K S O R C X : Type 0} {of_dial : DialGhosts G C X} {of_link : LinkGhosts C X} {told : Ghosts C X} → Common L G R C X of_dial of_link told → List ℕ → Gear D G T K S O → Start D G T K S O (AgedLink C)
+abbrev pub start_by : {L D G T K S O R C X : Type 0} {of_dial : DialGhosts G C X} {of_link : LinkGhosts C X} {told : Ghosts C X} → Common L G R C X of_dial of_link told → List ℕ → Gear D G T K S O → Start D G T K S O C
 start_by common sizes = start_of (lock_of common.site.now) sizes (counts common.pools.now) common.watch common.format.now
 
 -- the gear of a part: its door, the dial and the tape of its reach, its clock, the shelf of its desk, and what its log is written to

@@ -4,7 +4,7 @@ ghost use Rattle.std.specs.Option.{ForSome};
 ghost use Rattle.conn_pool.specs.Idle.{counts};
 ghost use Rattle.conn_pool.specs.Looks.{ends_of};
 
-use conn_pool::{AgedLink, Idle, Pools, Watch};
+use conn_pool::{Idle, Pools, Watch};
 use jk_io::Dial;
 use lb_shared::{SharedSite, SiteName};
 use request_log::Format;
@@ -14,7 +14,7 @@ use site_config::Config;
 #[derive(Drop)]
 pub struct Common<'s, 'r, L: SiteName, G: Dial, R> {
     pub site: &'s SharedSite<'r, L, R>,
-    pub pools: &'s Pools<'r, Idle<AgedLink<G::L>>, R>,
+    pub pools: &'s Pools<'r, Idle<G::L>, R>,
     pub cfg: &'s Config,
     /// When each worker looks at the idle links, if it does.
     pub watch: Option<Watch>,

@@ -2,25 +2,20 @@
 
 use crate::{logs, watches};
 use anyhow::Result;
-use check_rows::judging::{self, judge_files};
+use check_rows::judging::{self, judge_file};
 use check_rows::ways::Way;
 use jk_io::NoMemory;
 use std::alloc::Global;
 use std::rt::Files;
+use std::sync::Wait;
 
-/// What a file's rows are about.
-#[derive(Clone, Copy)]
-enum Area {
-    Logs,
-    Watches,
+/// The rows, over the locks that pools need.
+#[derive(Drop)]
+struct Logs<'r, R> {
+    rt: &'r R,
 }
 
-static FILES: [(&str, Area); 2] = [
-    ("log/logs.txt", Area::Logs),
-    ("log/watches.txt", Area::Watches),
-];
-
-impl judging::Area for Area {
+impl<'r, R: Wait> judging::Area for Logs<'r, R> {
     fn tell(
         &self,
         alloc: Global,
@@ -29,14 +24,15 @@ impl judging::Area for Area {
         _way: Way,
         out: &mut String,
     ) -> Result<(), NoMemory> {
-        match self {
-            Area::Logs => logs::tell(alloc, fields, out),
-            Area::Watches => watches::tell(alloc, fields, out),
+        match fields[0] {
+            "judge" => watches::tell(self.rt, alloc, fields, out),
+            _ => logs::tell(alloc, fields, out),
         }
     }
 }
 
 /// Shows each row that comes out otherwise, and how many come out as they say.
-pub fn judge_logs<R: Print + AllocGlobal + Files>(rt: &R) -> Result<()> {
-    judge_files(rt, &FILES)
+pub fn judge_logs<R: Print + AllocGlobal + Wait + Files>(rt: &R) -> Result<()> {
+    judge_file(rt, "log/logs.txt", &Logs { rt })?;
+    judge_file(rt, "log/watches.txt", &Logs { rt })
 }

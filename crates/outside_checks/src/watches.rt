@@ -1,27 +1,72 @@
 //! Idle links that are judged.
+ghost use Rattle.conn_pool.specs.Idle.{HasMember};
 
+use crate::lists::one_balancer;
 use check_rows::rows::{bytes_of, number};
 use check_rows::telling::{put_bytes, put_count};
-use conn_pool::{AgedLink, LinkList, WatchReport, judge};
-use jk_io::{ListOf, MemLink, NoMemory};
+use conn_pool::{Idle, LinkList, NoTape, PooledReach, Pools, WatchReport, judge};
+use jk_io::{Bytes, ListOf, MemDial, MemLink, MemLinkList, NoMemory, Reach};
 use std::alloc::Global;
+use std::sync::Wait;
 
 /// The most links that a row has.
 const MOST_LINKS: usize = 100;
 
-/// `ROUNDS BYTES`: a link, its looks and what it has to come.
-fn link_of(alloc: Global, text: &str) -> Result<AgedLink<MemLink>, NoMemory> {
-    let (rounds, bytes) = text.split_once(' ').unwrap_or((text, ""));
-    let link = MemLink::new(alloc, bytes_of(alloc, bytes)?, ListOf::new(alloc));
-    let mut link = AgedLink::new(alloc, link)?;
-    link.rounds = u32::try_from(number(rounds)).unwrap_or(0);
-    Ok(link)
+/// A link that has these bytes to come, after a talk in which no call of it was made.
+fn after_talk<R: Wait>(
+    alloc: Global,
+    pools: &Pools<'_, Idle<MemLink>, R>,
+    bytes: Bytes,
+) -> Result<LinkList<Idle<MemLink>>, NoMemory>
+    requires { HasMember pools.now 0 0 }
+{
+    let mut dialled = MemLinkList::new(alloc);
+    dialled.push(MemLink::new(alloc, bytes, ListOf::new(alloc)))?;
+    let dial = MemDial::new(dialled, ListOf::new(alloc));
+    let mut reach = PooledReach::new(pools, dial, NoTape);
+    let host = Bytes::new(alloc);
+    if reach.begin(alloc, 0, 0, &host, 8009, false).is_ok() {
+        reach.finish(true);
+    }
+    pools.take_all(alloc, 0, 0)
 }
 
-fn links_of(alloc: Global, list: &str) -> Result<LinkList<AgedLink<MemLink>>, NoMemory> {
+/// Links after one look more, at which each is kept.
+fn looked_at(links: LinkList<Idle<MemLink>>) -> LinkList<Idle<MemLink>> {
+    if links.len() > MOST_LINKS {
+        return links;
+    }
+    judge(links, u32::MAX, None).0
+}
+
+/// `ROUNDS BYTES`: adds a link, with the looks since its talk and what it has to come.
+fn add_link<R: Wait>(
+    rt: &R,
+    alloc: Global,
+    text: &str,
+    links: &mut LinkList<Idle<MemLink>>,
+) -> Result<(), NoMemory> {
+    let (rounds, bytes) = text.split_once(' ').unwrap_or((text, ""));
+    let sizes = one_balancer(alloc, &[1])?;
+    let pools = Pools::new(rt, alloc, &sizes)?;
+    let mut idle = after_talk(alloc, &pools, bytes_of(alloc, bytes)?)?;
+    for _ in 0..number(rounds) {
+        idle = looked_at(idle);
+    }
+    for link in idle.into_vec() {
+        links.push(link)?;
+    }
+    Ok(())
+}
+
+fn links_of<R: Wait>(
+    rt: &R,
+    alloc: Global,
+    list: &str,
+) -> Result<LinkList<Idle<MemLink>>, NoMemory> {
     let mut links = LinkList::new(alloc);
     for text in list.split(" & ") {
-        links.push(link_of(alloc, text)?)?;
+        add_link(rt, alloc, text, &mut links)?;
     }
     Ok(links)
 }
@@ -33,17 +78,17 @@ fn put_report(out: &mut String, report: WatchReport) -> Result<(), NoMemory> {
     put_count(out, "kept", u64::from(report.kept))
 }
 
-fn put_links(out: &mut String, links: &[AgedLink<MemLink>]) -> Result<(), NoMemory> {
-    for link in links {
-        put_count(out, "rounds", u64::from(link.rounds))?;
-        put_bytes(out, link.link.sent())?;
+fn put_links(out: &mut String, links: &[Idle<MemLink>]) -> Result<(), NoMemory> {
+    for idle in links {
+        put_count(out, "rounds", u64::from(idle.looks()))?;
+        put_bytes(out, idle.link().sent())?;
     }
     Ok(())
 }
 
 fn judge_links(
     out: &mut String,
-    links: LinkList<AgedLink<MemLink>>,
+    links: LinkList<Idle<MemLink>>,
     limit: u32,
     ping: Option<u64>,
 ) -> Result<(), NoMemory> {
@@ -56,12 +101,17 @@ fn judge_links(
 }
 
 /// What becomes of the links of a row, and the kept ones with what they sent.
-pub fn tell(alloc: Global, fields: &[&str; 8], out: &mut String) -> Result<(), NoMemory> {
+pub fn tell<R: Wait>(
+    rt: &R,
+    alloc: Global,
+    fields: &[&str; 8],
+    out: &mut String,
+) -> Result<(), NoMemory> {
     let limit = u32::try_from(number(fields[1])).unwrap_or(0);
     let ping = if fields[2] == "ping" {
         Some(1000)
     } else {
         None
     };
-    judge_links(out, links_of(alloc, fields[3])?, limit, ping)
+    judge_links(out, links_of(rt, alloc, fields[3])?, limit, ping)
 }

@@ -14,7 +14,7 @@ use crate::runs::ends::SiteRun;
 use crate::runs::new_site::NewSite;
 use crate::runs::parts::{SitePlan, WatchPlan, work};
 use crate::workers::MAX_WORKERS;
-use conn_pool::{AgedLink, Idle, Pools, Tape, Watch};
+use conn_pool::{Idle, Pools, Tape, Watch};
 use gear_parts::{Common, Gear, first_moment};
 use jk_io::{Clock, Dial, Door, NoMemory, SizeList, SizeTable};
 use lb_model::MemberConfig;

@@ -67,7 +67,7 @@ serve_slots-requires-send-R g c κs within =
     param_send 2 _
     (arg_send _ no _
     (watched_send (record { mir = named 15; lft = κs.1.1.1.1.1.1.1.1.1.1.1.1.1.1.1.0 }) (record { mir = named 16; lft = κs.1.1.1.1.1.1.1.1.1.1.1.1.1.1.1.1.0 })
-    (param 2 g.row.G) (param 3 g.row.T) (param 7 g.row.R) (param 10 g.row.G-L) (param 11 g.row.G-L-Beside) g.G.Dial g.G.L.Link g.G.L.Meanings g.T.Tape g.G.L.Source g.G.L.Sink
+    (param 2 g.row.G) (param 3 g.row.T) (param 7 g.row.R) (param 10 g.row.G-L) (param 11 g.row.G-L-Beside) g.G.Dial g.G.L.Link g.G.L.Meanings g.T.Tape
     c.type_bounds.send-G c.type_bounds.send-T c.type_bounds.sync-R c.type_bounds.send-G-L))
 
 pub empty_slots-requires-clause-over : goal.empty_slots-requires-clause-over
