@@ -21,7 +21,7 @@ pub record PartTells (D R K S Y C X : Type 0) : Type 1 where
   pub reach : Ghosts R Beside
   pub keeps : Keeps S Y
 
--- what they tell, by their types: `part_tells D.Door D.L.Meanings K.Clock R.Meanings S.Shelf (log_tells Y.gained Y.greets Y.broken_by Y.log_faults) D.L.may_wait`
+-- what they tell, by their types: `part_tells D.Door D.L.Meanings K.Clock R.Meanings S.Shelf ⟦<Y as ToldLog>⟧.told D.L.may_wait`
 abbrev pub part_tells : {D R K S Y C X : Type 0} → DoorGhosts D C X → Ghosts C X → ClockGhosts K → Ghosts R Beside → ShelfGhosts S → LogTells Y → Bool → PartTells D R K S Y C X
 part_tells of_door of_link of_clock of_reach of_shelf of_log may_wait = record {
   door = side of_door.coming of_door.left of_door.faults;

@@ -40,7 +40,7 @@ pub record Keeps (S Y : Type 0) : Type 1 where
   pub log : LogTells Y
   pub may_wait : Bool
 
--- by their types: `keeps S.shelved S.faults (log_tells Y.gained Y.greets Y.broken_by Y.log_faults) D.L.may_wait`
+-- by their types: `keeps S.shelved S.faults ⟦<Y as ToldLog>⟧.told D.L.may_wait`
 abbrev pub keeps : {S Y : Type 0} → (S → Option (List (ℕ × Segment))) → (S → ℕ) → LogTells Y → Bool → Keeps S Y
 keeps shelved shelf_faults log may_wait = record { shelved = shelved; shelf_faults = shelf_faults; log = log; may_wait = may_wait }
 

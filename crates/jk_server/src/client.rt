@@ -11,7 +11,6 @@ ghost use Rattle.lb_shared.specs.Histories.{HasGone};
 ghost use Rattle.lb_shared.specs.Loans.{name_in, seat_in, shelf_in, state_in};
 ghost use Rattle.lb_shared.specs.Notes.{StrayNote};
 ghost use Rattle.lb_shared.specs.Shelves.{HasShelved};
-ghost use Rattle.gear_parts.specs.Logs.{log_tells};
 ghost use Rattle.jk_server.specs.Lent.{HasPartsOver, ServesOver, SinceCounts, loaned};
 ghost use Rattle.jk_server.specs.Served.{DeskSettles, IsStray, SettlesBy};
 ghost use Rattle.jk_server.specs.PartTells.{part_tells};
@@ -19,6 +18,7 @@ ghost use Rattle.jk_server.specs.Turns.{LeavesClient, RestsPart};
 ghost use Rattle.jk_server.specs.Worker.{forgot_desk, IsFit, took};
 
 use crate::part::{Post, WorkerEnd};
+use crate::told_log::ToldLog;
 use client_session::{SessionEnd, SessionSite, SessionStop, Surroundings, serve_session};
 use gear_parts::{Part, WorkerLog};
 use http_front::Inbox;
@@ -288,7 +288,7 @@ pub(crate) fn serve_client<
     requires fit { IsFit post.cfg.now post.map.now part.old.desk.desk (R.beside part.old.reach) }
     requires logged { Y.broken_by part.old.log ≡ None }
     requires room { 0 < D.room part.old.door }
-    ensures { LeavesClient (part_tells D.Door D.L.Meanings K.Clock R.Meanings S.Shelf (log_tells Y.gained Y.greets Y.broken_by Y.log_faults) D.L.may_wait)
+    ensures { LeavesClient (part_tells D.Door D.L.Meanings K.Clock R.Meanings S.Shelf ⟦<Y as ToldLog>⟧.told D.L.may_wait)
         post.entry part.old part.new link peer.now result }
 {
     let before = forget_last(&mut part.desk);
@@ -323,7 +323,7 @@ pub(crate) fn go_on<L: SiteName, D: Door, R: Reach, K: Clock, S: Shelf, W, Y: Wo
 ) -> Option<WorkerEnd<L>>
     requires idle { (R.beside part.old.reach).runs ≡ false }
     requires none_held { part.old.desk.desk.held ≡ [] }
-    ensures { RestsPart (part_tells D.Door D.L.Meanings K.Clock R.Meanings S.Shelf (log_tells Y.gained Y.greets Y.broken_by Y.log_faults) D.L.may_wait)
+    ensures { RestsPart (part_tells D.Door D.L.Meanings K.Clock R.Meanings S.Shelf ⟦<Y as ToldLog>⟧.told D.L.may_wait)
         part.old part.new result }
 {
     let now = part.clock.now();

@@ -16,6 +16,7 @@ mod orders;
 mod part;
 mod runs;
 mod serving;
+mod told_log;
 mod workers;
 
 pub use ajp_container::{
@@ -30,4 +31,5 @@ pub use runs::ends::{Closing, SiteRun};
 pub use runs::parts::{SitePlan, WatchPlan};
 pub use runs::serve::serve_gears;
 pub use serving::serve_part;
+pub use told_log::ToldLog;
 pub use workers::MAX_WORKERS;

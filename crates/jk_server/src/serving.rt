@@ -1,7 +1,6 @@
 //! The whole work of one worker.
 ghost use Rattle.std.specs.Prelude.{◌≡◌, None};
 ghost use Rattle.client_session.specs.Requests.{visit};
-ghost use Rattle.gear_parts.specs.Logs.{log_tells};
 ghost use Rattle.jk_server.specs.Served.{ServesPart};
 ghost use Rattle.jk_server.specs.PartTells.{part_tells};
 ghost use Rattle.jk_server.specs.Turns.{TurnsPart};
@@ -9,6 +8,7 @@ ghost use Rattle.jk_server.specs.Worker.{IsFit};
 
 use crate::client::{go_on, serve_client};
 use crate::part::{Post, WorkerEnd};
+use crate::told_log::ToldLog;
 use gear_parts::{Part, WorkerLog};
 use http_front::Inbox;
 use jk_io::{Arrival, Clock, Door, Reach, next_client};
@@ -30,7 +30,7 @@ pub fn serve_part<L: SiteName, D: Door, R: Reach, K: Clock, S: Shelf, W: Wait, Y
 ) -> WorkerEnd<L>
     requires fit { IsFit cfg.now map.now part.old.desk.desk (R.beside part.old.reach) }
     requires logged { Y.broken_by part.old.log ≡ None }
-    ensures served { ServesPart (part_tells D.Door D.L.Meanings K.Clock R.Meanings S.Shelf (log_tells Y.gained Y.greets Y.broken_by Y.log_faults) D.L.may_wait)
+    ensures served { ServesPart (part_tells D.Door D.L.Meanings K.Clock R.Meanings S.Shelf ⟦<Y as ToldLog>⟧.told D.L.may_wait)
         (visit cfg.now map.now number) part.old part.new result }
     ensures fit { IsFit cfg.now map.now part.new.desk.desk (R.beside part.new.reach) }
     ensures parts { part.new.desk.desk.parts ≡ part.old.desk.desk.parts }
@@ -58,7 +58,7 @@ fn serve_turn<L: SiteName, D: Door, R: Reach, K: Clock, S: Shelf, W: Wait, Y: Wo
 ) -> Option<WorkerEnd<L>>
     requires fit { IsFit post.cfg.now post.map.now part.old.desk.desk (R.beside part.old.reach) }
     requires logged { Y.broken_by part.old.log ≡ None }
-    ensures { TurnsPart (part_tells D.Door D.L.Meanings K.Clock R.Meanings S.Shelf (log_tells Y.gained Y.greets Y.broken_by Y.log_faults) D.L.may_wait)
+    ensures { TurnsPart (part_tells D.Door D.L.Meanings K.Clock R.Meanings S.Shelf ⟦<Y as ToldLog>⟧.told D.L.may_wait)
         post.entry part.old part.new sessions result }
 {
     let (link, peer) = match next_client(alloc, &mut part.door) {

@@ -2,7 +2,6 @@
 ghost use Rattle.std.specs.Prelude.{◌≡◌, ◌+◌, ◌<◌, ◌≤◌, ℕ, [], length, map, slice_index_or, vec_capacity, vec_len, IfOk};
 ghost use Rattle.std.specs.List.{All};
 ghost use Rattle.gear_parts.specs.GearParts.{start_by};
-ghost use Rattle.gear_parts.specs.Logs.{log_tells};
 ghost use Rattle.gear_parts.specs.Putting.{PutsOne};
 ghost use Rattle.jk_server.specs.Parts.{AllFour, AreDone, InEach, IsOver, LeavesSlot, WorksSlot, slot_start};
 ghost use Rattle.jk_server.specs.PartTells.{part_tells};
@@ -11,6 +10,7 @@ ghost use Rattle.jk_server.specs.Worker.{MayBegin};
 
 use crate::part::{Ran, WorkerEnd};
 use crate::serving::serve_part;
+use crate::told_log::ToldLog;
 use conn_pool::{Tape, WatchedReach};
 use gear_parts::{Common, Gear, GearLog, Part, WorkerLog, gear_of, part_of};
 use jk_io::{Clock, Dial, Door, NoMemory, Reach};
@@ -137,7 +137,7 @@ where
     D::L: Send,
     requires few { vec_len slots.old ≤ MAX_WORKERS }
     requires ready { All (λ s. MayBegin cfg.now map.now s.part.desk.desk (R.beside s.part.reach) (Y.broken_by s.part.log)) slots.old.items }
-    ensures served { let told = part_tells D.Door D.L.Meanings K.Clock R.Meanings S.Shelf (log_tells Y.gained Y.greets Y.broken_by Y.log_faults) D.L.may_wait in
+    ensures served { let told = part_tells D.Door D.L.Meanings K.Clock R.Meanings S.Shelf ⟦<Y as ToldLog>⟧.told D.L.may_wait in
         AreDone (WorksSlot told cfg.now map.now) 0 slots.old.items slots.new.items }
 {
     let crew = Crew {
@@ -197,7 +197,6 @@ impl<'a, 's, 'r, L: SiteName, D: Door, R: Reach, K: Clock, S: Shelf, W: Wait, Y:
     Slot<Part<'s, 'r, L, D, R, K, S, W, Y>, L>,
 > for Crew<'a, W> {
     ghost use Rattle.std.specs.Prelude.{◌<◌};
-    ghost use Rattle.gear_parts.specs.Logs.{log_tells};
     ghost use Rattle.jk_server.specs.declared.workers.TheConstants.{MAX_WORKERS};
     ghost use Rattle.jk_server.specs.Parts.{WorksSlot};
     ghost use Rattle.jk_server.specs.PartTells.{part_tells};
@@ -206,7 +205,7 @@ impl<'a, 's, 'r, L: SiteName, D: Door, R: Reach, K: Clock, S: Shelf, W: Wait, Y:
     ghost may = { λ crew number slot. (number < MAX_WORKERS)
         × MayBegin crew.cfg.now crew.map.now slot.part.desk.desk (R.beside slot.part.reach) (Y.broken_by slot.part.log) };
 
-    ghost did = { λ crew number a b. let told = part_tells D.Door D.L.Meanings K.Clock R.Meanings S.Shelf (log_tells Y.gained Y.greets Y.broken_by Y.log_faults) D.L.may_wait in
+    ghost did = { λ crew number a b. let told = part_tells D.Door D.L.Meanings K.Clock R.Meanings S.Shelf ⟦<Y as ToldLog>⟧.told D.L.may_wait in
         WorksSlot told crew.cfg.now crew.map.now number a b };
 
     fn work(&self, number: usize, slot: &mut Slot<Part<'s, 'r, L, D, R, K, S, W, Y>, L>) {
