@@ -6,7 +6,7 @@ use jk_cli::{Order, WordsError};
 use jk_commands::{let_go, run_jkd};
 use jk_io::{Bytes, Door};
 use real_io::{RealFiles, StdIn, StdOut};
-use remarks::{CountedInput, Ended, KeptFiles};
+use remarks::{CountedInput, Ended, KeptFiles, command_asked};
 use std::io::{Input, Write};
 use std::net::Net;
 use std::rt::Files as SystemFiles;
@@ -60,6 +60,7 @@ where
     let_go(end);
     if let Ok(reason) = reason(rt, asked, files.reads()) {
         let ended = Ended {
+            command: command_asked(asked),
             words,
             status,
             reads: files.reads(),

@@ -2,6 +2,7 @@
 use crate::plain::{do_words, files_of, input_of};
 use crate::row_text::RowText;
 use check_rows::row::{BlockRow, RowError};
+use jk_cli::command_of;
 use jk_io::{Bytes, Files, MemFiles, MemLink, NoMemory, NumberList, Sink, Source};
 use remarks::{CountedInput, Ended, KeptFiles, RemarkOut, remarks_on};
 use std::alloc::Global;
@@ -57,6 +58,7 @@ fn over_input<F: Files + Drop, S: Source + Drop>(
 ) -> Result<(), NoMemory> {
     let status = do_words(alloc, words, files, input, &mut empty_link(alloc));
     let ended = Ended {
+        command: command_of(words),
         words,
         status,
         reads: files.reads(),

@@ -1,7 +1,6 @@
 -- What is said of a command that ended, by its status and what it read.
 use Rattle.std.specs.Prelude.{◌≡◌, ℕ, ◌-◌, Bool, true, false, List, [], ◌∷◌, ◌++◌, Option, Some, None, codes, drop, length, slice_get, nat_lt, if◌then◌else◌, ◌&&◌, not}
 use Rattle.std.specs.Option.{is_none, option_map}
-use Rattle.jk_cli.specs.Orders.{command_of}
 use Rattle.jk_cli.specs.declared.name.CommandName.{CommandName}
 use Rattle.jk_cli.specs.declared.name.CommandName.TheVariants as name
 use Rattle.remarks.specs.declared.ended.Ended.{Ended}
@@ -71,29 +70,29 @@ SaysLong (Some name) input at reads said = said ≡ too_long_text name
 SaysLong None input at reads said = SaysInput (nat_lt 67108864 input.bytes) at reads said
 
 -- why a command refused what it read
-abbrev pub SaysRefused : (words : List (List ℕ)) → List ReadFile → InputSeen → (said : List ℕ) → Type 0
-SaysRefused words reads input said = SaysLong (long_name reads) input (site_place (command_of words)) reads said
+abbrev pub SaysRefused : Option CommandName → List ReadFile → InputSeen → (said : List ℕ) → Type 0
+SaysRefused command reads input said = SaysLong (long_name reads) input (site_place command) reads said
 
 abbrev pub SaysEffectsAt : Option SitePlace → List ReadFile → (said : List ℕ) → Type 0
 SaysEffectsAt None reads said = said ≡ []
 SaysEffectsAt (Some at) reads said = SaysPlaced (if at.effects then Some at else None) reads said
 
 -- what of a command's files has no effect
-abbrev pub SaysEffects : (words : List (List ℕ)) → List ReadFile → (said : List ℕ) → Type 0
-SaysEffects words reads said = SaysEffectsAt (site_place (command_of words)) reads said
+abbrev pub SaysEffects : Option CommandName → List ReadFile → (said : List ℕ) → Type 0
+SaysEffects command reads said = SaysEffectsAt (site_place command) reads said
 
 -- a text that ends its line
 abbrev pub IsLine : (said : List ℕ) → Type 0
 IsLine said = (text : List ℕ) × (said ≡ text ++ codes "\n")
 
--- the words ask a front to end
+-- a front is asked to end
 abbrev pub asks_stop : Option CommandName → Bool
 asks_stop (Some name.Stop) = true
 asks_stop command = false
 
 -- the socket of a front that was asked to end, and answered
-abbrev pub unended_name : (words : List (List ℕ)) → List ReadFile → Option (List ℕ)
-unended_name words reads = if asks_stop (command_of words) then name_if (λ read. not (is_none read.text)) (last_read reads) else None
+abbrev pub unended_name : Option CommandName → List ReadFile → Option (List ℕ)
+unended_name command reads = if asks_stop command then name_if (λ read. not (is_none read.text)) (last_read reads) else None
 
 -- of a front that answered otherwise than that it ended, or of what can't be read
 abbrev pub fault_text : (front : Option (List ℕ)) → (unread : List ℕ) → List ℕ
@@ -109,4 +108,4 @@ unread_text None false reason = []
 -- what failed, of a command that ended with status 4
 abbrev pub fault_of : Ended → List ℕ
 fault_of ended =
-    fault_text (unended_name ended.words.now ended.reads.now) (unread_text (unread_name ended.reads.now) ended.input.failed ended.reason.now)
+    fault_text (unended_name ended.command ended.reads.now) (unread_text (unread_name ended.reads.now) ended.input.failed ended.reason.now)

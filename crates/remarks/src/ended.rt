@@ -10,12 +10,16 @@ use crate::read_file::ReadFile;
 use crate::remark_out::RemarkOut;
 use crate::site::{put_effects, put_placed, site_place};
 use crate::words::said_of_words;
+use jk_cli::CommandName;
 use jk_io::{Bytes, IoError, MAX_INPUT_BYTES, NoMemory, Sink};
 use std::alloc::Global;
 
-/// A command that ended: its words, its status, and what it read.
+/// A command that ended: its status, and what it read.
 #[derive(Clone, Copy)]
 pub struct Ended<'e> {
+    /// None where the words are no command.
+    pub command: Option<CommandName>,
+    /// The words as they were given, of which it is said what is wrong where they are no command.
     pub words: &'e [Bytes],
     pub status: u8,
     /// What each read of a file gave, in order.
@@ -52,11 +56,11 @@ fn put_long<O: Sink + Drop>(
 fn put_refusal<O: Sink + Drop>(
     alloc: Global,
     out: &mut RemarkOut<O>,
-    words: &[Bytes],
+    command: Option<CommandName>,
     reads: &[ReadFile],
     input: InputSeen,
 ) -> Result<(), IoError>
-    ensures added { AddsSaid result out.old.said out.new.said (SaysRefused words.now reads.now input) }
+    ensures added { AddsSaid result out.old.said out.new.said (SaysRefused command reads.now input) }
     ensures cause { HasCause out.old.faults out.new.faults result }
     ensures steady { IsOk result → out.new.faults ≡ out.old.faults }
 {
@@ -66,14 +70,14 @@ fn put_refusal<O: Sink + Drop>(
     if (MAX_INPUT_BYTES as u64) < input.bytes {
         return put_long(alloc, out, b"standard input");
     }
-    put_placed(alloc, out, reads, site_place(words))
+    put_placed(alloc, out, reads, site_place(command))
 }
 
 /// What failed: a front that was asked to end answered otherwise, or a file can't be read.
 fn fault_of(alloc: Global, ended: &Ended<'_>) -> Result<Bytes, NoMemory>
     ensures { IfOk result (λ said. said ≡ fault_of ended.now) }
 {
-    match unended_file(ended.words, ended.reads) {
+    match unended_file(ended.command, ended.reads) {
         Some(name) => unended(alloc, name),
         None => unread_of(alloc, ended.reads, ended.input, ended.reason),
     }
@@ -161,10 +165,10 @@ pub fn remarks_on<O: Sink + Drop>(
     ended: &Ended<'_>,
 ) -> Result<(), IoError>
     ensures effects { ended.now.status ≡ 0
-        → AddsSaid result out.old.said out.new.said (SaysEffects ended.now.words.now ended.now.reads.now) }
+        → AddsSaid result out.old.said out.new.said (SaysEffects ended.now.command ended.now.reads.now) }
     ensures words { ended.now.status ≡ 2 → AddsSaid result out.old.said out.new.said IsLine }
     ensures refused { ended.now.status ≡ 3
-        → AddsSaid result out.old.said out.new.said (SaysRefused ended.now.words.now ended.now.reads.now ended.now.input) }
+        → AddsSaid result out.old.said out.new.said (SaysRefused ended.now.command ended.now.reads.now ended.now.input) }
     ensures failed { ended.now.status ≡ 4
         → AddsText result out.old.said out.new.said (fault_of ended.now) }
 
@@ -175,9 +179,9 @@ pub fn remarks_on<O: Sink + Drop>(
     ensures steady { IsOk result → out.new.faults ≡ out.old.faults }
 {
     match ended.status {
-        0 => put_effects(alloc, out, ended.words, ended.reads),
+        0 => put_effects(alloc, out, ended.command, ended.reads),
         2 => put_words(alloc, out, ended.words),
-        3 => put_refusal(alloc, out, ended.words, ended.reads, ended.input),
+        3 => put_refusal(alloc, out, ended.command, ended.reads, ended.input),
         4 => put_fault(alloc, out, ended),
         _ => Ok(()),
     }

@@ -4,8 +4,7 @@ ghost use Rattle.std.specs.Option.{option_map};
 ghost use Rattle.remarks.specs.Told.{long_name, unended_name, unread_name};
 
 use crate::read_file::ReadFile;
-use jk_cli::{CommandName, command_of};
-use jk_io::Bytes;
+use jk_cli::CommandName;
 
 /// The file whose read failed, if the last one did.
 pub fn unread_file(reads: &[ReadFile]) -> Option<&[u8]>
@@ -19,11 +18,11 @@ pub fn unread_file(reads: &[ReadFile]) -> Option<&[u8]>
     }
 }
 
-/// The socket of a front that these words asked to end, if it answered.
-pub(crate) fn unended_file<'r>(words: &[Bytes], reads: &'r [ReadFile]) -> Option<&'r [u8]>
-    ensures { option_map (λ t. t.now) result ≡ unended_name words.now reads.now }
+/// The socket of a front that was asked to end, if it answered.
+pub(crate) fn unended_file(command: Option<CommandName>, reads: &[ReadFile]) -> Option<&[u8]>
+    ensures { option_map (λ t. t.now) result ≡ unended_name command reads.now }
 {
-    if !matches!(command_of(words), Some(CommandName::Stop)) {
+    if !matches!(command, Some(CommandName::Stop)) {
         return None;
     }
     let last = reads.last()?;

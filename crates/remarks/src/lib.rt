@@ -12,6 +12,7 @@
 #![tactic(auto)]
 
 mod again;
+mod asked;
 mod counted_input;
 mod ended;
 mod explain;
@@ -33,6 +34,7 @@ mod values;
 mod wanted;
 mod words;
 
+pub use asked::command_asked;
 pub use counted_input::CountedInput;
 pub use ended::{Ended, remarks_on};
 pub use input_seen::InputSeen;

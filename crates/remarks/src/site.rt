@@ -1,7 +1,6 @@
 //! Remarks on the files of a site that a command read.
 ghost use Rattle.std.specs.Prelude.{◌≡◌, IfSome, IsOk};
 ghost use Rattle.std.specs.Option.{option_map};
-ghost use Rattle.jk_cli.specs.Orders.{command_of};
 ghost use Rattle.jk_io.specs.Told.{HasCause};
 ghost use Rattle.remarks.specs.Told.{SaysEffects, SaysEffectsAt, SaysPlaced, SaysSite, map_among, site_place, text_of};
 ghost use Rattle.remarks.specs.Added.{AddsSaid};
@@ -11,8 +10,8 @@ use crate::read_file::ReadFile;
 use crate::remark_out::RemarkOut;
 use crate::remarks::site_remarks;
 use crate::site_file::{SiteFile, SiteFiles};
-use jk_cli::{CommandName, command_of};
-use jk_io::{Bytes, IoError, Sink};
+use jk_cli::CommandName;
+use jk_io::{IoError, Sink};
 use std::alloc::Global;
 
 /// Where a command's WORKERS stands among its files, and whether what has no effect is told.
@@ -22,7 +21,7 @@ pub(crate) struct SitePlace {
     pub(crate) effects: bool,
 }
 
-fn placed(command: Option<CommandName>) -> Option<SitePlace>
+pub(crate) fn site_place(command: Option<CommandName>) -> Option<SitePlace>
     ensures { result ≡ site_place command }
 {
     match command {
@@ -40,12 +39,6 @@ fn placed(command: Option<CommandName>) -> Option<SitePlace>
         }),
         _ => None,
     }
-}
-
-pub(crate) fn site_place(words: &[Bytes]) -> Option<SitePlace>
-    ensures { result ≡ site_place (command_of words.now) }
-{
-    placed(command_of(words))
 }
 
 fn file_of(read: &ReadFile) -> Option<SiteFile<'_>>
@@ -122,14 +115,14 @@ pub(crate) fn put_placed<O: Sink + Drop>(
 pub(crate) fn put_effects<O: Sink + Drop>(
     alloc: Global,
     out: &mut RemarkOut<O>,
-    words: &[Bytes],
+    command: Option<CommandName>,
     reads: &[ReadFile],
 ) -> Result<(), IoError>
-    ensures added { AddsSaid result out.old.said out.new.said (SaysEffects words.now reads.now) }
+    ensures added { AddsSaid result out.old.said out.new.said (SaysEffects command reads.now) }
     ensures cause { HasCause out.old.faults out.new.faults result }
     ensures steady { IsOk result → out.new.faults ≡ out.old.faults }
 {
-    match site_place(words) {
+    match site_place(command) {
         None => Ok(()),
         Some(at) => {
             if at.effects {

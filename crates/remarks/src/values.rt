@@ -1,6 +1,6 @@
 //! Remarks on a command's words that the parser of the help takes, and that are no command.
 use clap::ArgMatches;
-use jk_cli::usage_of;
+use jk_cli::{MOST_REQUESTS, MOST_ROUTE_BYTES, MOST_THREADS, usage_of};
 use jk_io::{NoMemory, parse_decimal};
 use std::alloc::Global;
 
@@ -22,13 +22,13 @@ static RANGES: [Range; 12] = [
     Range {
         name: "THREADS",
         least: 1,
-        most: 64,
+        most: MOST_THREADS as u64,
         wanted: "THREADS must be a number from 1 to 64",
     },
     Range {
         name: "REQUESTS",
         least: 1,
-        most: 1_000_000,
+        most: MOST_REQUESTS as u64,
         wanted: "REQUESTS must be a number from 1 to 1000000",
     },
     Range {
@@ -106,9 +106,6 @@ static NEEDS: [Need; 2] = [
         wanted: "--format needs --log",
     },
 ];
-
-/// The most bytes of a route.
-const MOST_ROUTE_BYTES: usize = 1024;
 
 fn is_within(range: &Range, word: &str) -> bool {
     match parse_decimal(word.as_bytes()) {
