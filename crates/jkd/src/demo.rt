@@ -140,7 +140,7 @@ fn container_order(alloc: Global, which: DemoContainer) -> Result<Order, NoMemor
 }
 
 /// An input from which nothing comes.
-pub(crate) fn no_input(alloc: Global) -> MemLink {
+fn no_input(alloc: Global) -> MemLink {
     MemLink::new(alloc, Bytes::new(alloc), NumberList::new(alloc))
 }
 

@@ -1,7 +1,7 @@
 -- What a person reads of a site's files on standard error: of each line that is refused the line as it stands and what is
 -- wrong with it, and of files that are accepted, where it is asked for, what has no effect, and that a map has no rule. A file
 -- is its name and its text.
-use Rattle.std.specs.Prelude.{◌≡◌, ◌≤◌, ℕ, Bool, true, false, List, [], ◌++◌, ◌⊎◌, Option, Some, None, IfSome, Result, Ok, Err, length}
+use Rattle.std.specs.Prelude.{◌≡◌, ◌≤◌, ℕ, Bool, true, false, List, [], ◌++◌, ◌⊎◌, Option, Some, None, IfSome, Result, Ok, Err, IsErr, IsOk, length}
 use Rattle.std.specs.Option.{option_map}
 use Rattle.site_config.specs.Properties as properties
 use Rattle.site_config.specs.Refusals.{LineRefusal}
@@ -53,6 +53,25 @@ AreRemarks effects workers map out =
     ((r : LineRefusal) × IsRefused workers.1 r × (out ≡ workers_refusals workers r))
     ⊎ ((c : Config) × IsConfig workers.1 c × (ps : List Property) × (properties.read_text true workers.1 ≡ Ok ps)
     × (out ≡ workers_remarks effects workers.0 c ps ++ map_remarks effects c map))
+
+-- both files are accepted
+abbrev pub AreAccepted : (workers map : List ℕ × List ℕ) → Type 0
+AreAccepted workers map = (c : Config) × IsConfig workers.1 c × IsOk (read_text c map.1)
+
+-- one of them is refused
+abbrev pub IsOneRefused : (workers map : List ℕ × List ℕ) → Type 0
+IsOneRefused workers map =
+    ((r : LineRefusal) × IsRefused workers.1 r) ⊎ ((c : Config) × IsConfig workers.1 c × IsErr (read_text c map.1))
+
+-- of both files: what in them has no effect, where both are accepted, and nothing where one is refused
+abbrev pub AreEffects : (workers map : List ℕ × List ℕ) → (out : List ℕ) → Type 0
+AreEffects workers map out =
+    (AreAccepted workers map × AreRemarks true workers (Some map) out) ⊎ (IsOneRefused workers map × (out ≡ []))
+
+-- of a workers.properties that gives this configuration, and a map: the same, by what the map reads as
+abbrev pub effects_over : Config → List Property → (workers map : List ℕ × List ℕ) → Result (List Rule) LineRefusal → List ℕ
+effects_over c ps workers map (Err r) = []
+effects_over c ps workers map (Ok rules) = workers_remarks true workers.0 c ps ++ rules_remarks true c map (Ok rules)
 
 -- a file's name and text
 abbrev pub as_file : SiteFile → List ℕ × List ℕ

@@ -7,7 +7,7 @@ use Rattle.remarks.specs.declared.ended.Ended.{Ended}
 use Rattle.remarks.specs.declared.input_seen.InputSeen.{InputSeen}
 use Rattle.remarks.specs.declared.read_file.ReadFile.{ReadFile}
 use Rattle.remarks.specs.declared.site.SitePlace.{SitePlace}
-use Rattle.remarks.specs.Remarks.{AreRemarks}
+use Rattle.remarks.specs.Remarks.{AreEffects, AreRemarks}
 
 -- the name and the text of a file that was read
 abbrev pub text_of : ReadFile → Option (List ℕ × List ℕ)
@@ -27,6 +27,17 @@ AreSaid effects (Some workers) map said = AreRemarks effects workers map said
 abbrev pub SaysSite : (effects : Bool) → List ReadFile → (said : List ℕ) → Type 0
 SaysSite effects [] said = said ≡ []
 SaysSite effects (read ∷ reads) said = AreSaid effects (text_of read) (map_among reads) said
+
+-- what in a site's files has no effect, where both were read
+abbrev pub AreBothSaid : (workers map : Option (List ℕ × List ℕ)) → (said : List ℕ) → Type 0
+AreBothSaid None map said = said ≡ []
+AreBothSaid (Some workers) None said = said ≡ []
+AreBothSaid (Some workers) (Some map) said = AreEffects workers map said
+
+-- of a site whose workers.properties was read first, and its map after it
+abbrev pub SaysBoth : List ReadFile → (said : List ℕ) → Type 0
+SaysBoth [] said = said ≡ []
+SaysBoth (read ∷ reads) said = AreBothSaid (text_of read) (map_among reads) said
 
 -- where a command's WORKERS stands among its files, and whether what has no effect is told
 abbrev pub site_place : Option CommandName → Option SitePlace

@@ -6,8 +6,9 @@
 //! Shapes: `KeptFiles` and `CountedInput` go round the files and the input of a command, and `remarks_on` is called once it
 //! ended. Nothing here changes what the command reads, writes or answers.
 //! Contract: `site_remarks`. Read first: specs/Remarks.antt, then specs/Refused.antt, Explained.antt, Notices.antt, MapNotices.antt.
-//! `remarks_on`, a clause for each status, and `cause`; `KeptFiles` and `CountedInput` are read as what they go round, and keep
-//! what a read gave (clauses `kept` and `seen`): specs/Told.antt, then specs/Seen.antt.
+//! `remarks_on`, a clause for each status, and `cause`; `effects_on`, what of accepted files has no effect; `KeptFiles` and
+//! `CountedInput` are read as what they go round, and keep what a read gave (clauses `kept` and `seen`): specs/Told.antt, then
+//! specs/Seen.antt.
 //! Errors: a write that failed, only where the sink's count of faults rose, and want of memory.
 #![tactic(auto)]
 
@@ -29,6 +30,7 @@ mod remark_out;
 mod remarks;
 mod said_lines;
 mod site;
+mod site_effects;
 mod site_file;
 mod values;
 mod wanted;
@@ -43,4 +45,5 @@ pub use last_read::unread_file;
 pub use read_file::ReadFile;
 pub use remark_out::RemarkOut;
 pub use remarks::site_remarks;
+pub use site::effects_on;
 pub use site_file::{SiteFile, SiteFiles};

@@ -135,7 +135,7 @@ fn put_any_map<O: Sink + Drop>(
 }
 
 /// Adds what in a workers.properties has no effect.
-fn put_effects<O: Sink + Drop>(
+pub(crate) fn put_effects<O: Sink + Drop>(
     alloc: Global,
     out: &mut RemarkOut<O>,
     config: &Config,

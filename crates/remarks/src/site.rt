@@ -2,13 +2,14 @@
 ghost use Rattle.std.specs.Prelude.{◌≡◌, IfSome, IsOk};
 ghost use Rattle.std.specs.Option.{option_map};
 ghost use Rattle.jk_io.specs.Told.{HasCause};
-ghost use Rattle.remarks.specs.Told.{SaysEffects, SaysEffectsAt, SaysPlaced, SaysSite, map_among, site_place, text_of};
+ghost use Rattle.remarks.specs.Told.{SaysBoth, SaysEffects, SaysEffectsAt, SaysPlaced, SaysSite, map_among, site_place, text_of};
 ghost use Rattle.remarks.specs.Added.{AddsSaid};
 ghost use Rattle.remarks.specs.Remarks.{IsShort, as_file};
 
 use crate::read_file::ReadFile;
 use crate::remark_out::RemarkOut;
 use crate::remarks::site_remarks;
+use crate::site_effects::site_effects;
 use crate::site_file::{SiteFile, SiteFiles};
 use jk_cli::CommandName;
 use jk_io::{IoError, Sink};
@@ -131,5 +132,28 @@ pub(crate) fn put_effects<O: Sink + Drop>(
                 Ok(())
             }
         }
+    }
+}
+
+/// Adds what in the files of a site has no effect, whose WORKERS was read first and its MAP after it, where both were read and
+/// are accepted. Each is looked through once. Of files that are refused nothing is said.
+pub fn effects_on<O: Sink + Drop>(
+    alloc: Global,
+    out: &mut RemarkOut<O>,
+    reads: &[ReadFile],
+) -> Result<(), IoError>
+    ensures added { AddsSaid result out.old.said out.new.said (SaysBoth reads.now) }
+    ensures cause { HasCause out.old.faults out.new.faults result }
+    ensures steady { IsOk result → out.new.faults ≡ out.old.faults }
+{
+    let [first, rest @ ..] = reads else {
+        return Ok(());
+    };
+    let Some(workers) = file_of(first) else {
+        return Ok(());
+    };
+    match map_of(rest) {
+        None => Ok(()),
+        Some(map) => site_effects(alloc, out, &workers, &map),
     }
 }

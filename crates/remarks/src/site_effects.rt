@@ -1,0 +1,83 @@
+//! What in a site's two files has no effect, where both are accepted.
+ghost use Rattle.std.specs.Prelude.{◌≡◌, ◌++◌, List, Ok, true, IsOk};
+ghost use Rattle.jk_io.specs.Told.{HasCause};
+ghost use Rattle.site_config.specs.Properties as properties;
+ghost use Rattle.site_config.specs.declared.property.Property.{Property};
+ghost use Rattle.site_mounts.specs.Lines.{read_text};
+ghost use Rattle.remarks.specs.Added.{AddsSaid, AddsText};
+ghost use Rattle.remarks.specs.Remarks.{AreEffects, IsShort, as_file, effects_over, rules_remarks, workers_remarks};
+
+use crate::kinds::kind_table;
+use crate::map_effects::put_map_effects;
+use crate::remark_out::RemarkOut;
+use crate::remarks::put_effects;
+use crate::site_file::SiteFile;
+use jk_io::{IoError, Sink};
+use site_config::{Config, PropsError};
+use site_mounts::{MapError, UriMap, read_map};
+use site_workers::read_workers;
+use std::alloc::Global;
+
+/// Adds what has no effect in a workers.properties that gives this configuration, and in a map of these rules.
+fn put_both<O: Sink + Drop>(
+    alloc: Global,
+    out: &mut RemarkOut<O>,
+    config: &Config,
+    rules: &UriMap,
+    workers: &SiteFile<'_>,
+    map: &SiteFile<'_>,
+) -> Result<(), IoError>
+    requires workers { IsShort workers.now }
+    requires map { IsShort map.now }
+    ensures added { (ps : List Property) → properties.read_text true workers.now.text.now ≡ Ok ps
+        → AddsText result out.old.said out.new.said (effects_over config.now ps (as_file workers.now) (as_file map.now) (Ok rules.now)) }
+    ensures cause { HasCause out.old.faults out.new.faults result }
+    ensures steady { IsOk result → out.new.faults ≡ out.old.faults }
+{
+    let table = kind_table(alloc, config)?;
+    put_effects(alloc, out, config, &table, workers)?;
+    put_map_effects(alloc, out, &table, map, rules)
+}
+
+/// Adds what has no effect in files whose workers.properties gives this configuration, where the map is accepted.
+fn put_over<O: Sink + Drop>(
+    alloc: Global,
+    out: &mut RemarkOut<O>,
+    config: &Config,
+    workers: &SiteFile<'_>,
+    map: &SiteFile<'_>,
+) -> Result<(), IoError>
+    requires workers { IsShort workers.now }
+    requires map { IsShort map.now }
+    ensures added { (ps : List Property) → properties.read_text true workers.now.text.now ≡ Ok ps
+        → AddsText result out.old.said out.new.said
+        (effects_over config.now ps (as_file workers.now) (as_file map.now) (read_text config.now map.now.text.now)) }
+    ensures cause { HasCause out.old.faults out.new.faults result }
+    ensures steady { IsOk result → out.new.faults ≡ out.old.faults }
+{
+    match read_map(alloc, map.text, config) {
+        Ok(rules) => put_both(alloc, out, config, &rules, workers, map),
+        Err(MapError::Refused { .. }) => Ok(()),
+        Err(MapError::NoMemory) => Err(IoError::NoMemory),
+    }
+}
+
+/// Adds what in a site's files has no effect, where both are accepted. Of files that are refused nothing is said.
+pub(crate) fn site_effects<O: Sink + Drop>(
+    alloc: Global,
+    out: &mut RemarkOut<O>,
+    workers: &SiteFile<'_>,
+    map: &SiteFile<'_>,
+) -> Result<(), IoError>
+    requires workers { IsShort workers.now }
+    requires map { IsShort map.now }
+    ensures added { AddsSaid result out.old.said out.new.said (AreEffects (as_file workers.now) (as_file map.now)) }
+    ensures cause { HasCause out.old.faults out.new.faults result }
+    ensures steady { IsOk result → out.new.faults ≡ out.old.faults }
+{
+    match read_workers(alloc, workers.text) {
+        Ok(config) => put_over(alloc, out, &config, workers, map),
+        Err(PropsError::Refused { .. }) => Ok(()),
+        Err(PropsError::NoMemory) => Err(IoError::NoMemory),
+    }
+}
