@@ -4,8 +4,8 @@
 //! does what they ask for, what is told of it on standard error, and the demo.
 //!
 //! Source: own rules for the demo and for what is told.
-//! Contract: of `demo`, `serve_demo` and `contain_demo`, each by `run_jkd`. Read first: jk_commands' specs/Commands.antt, then
-//! specs/Demo.antt.
+//! Contract: of `do_in`, by which the program does what was read and gets its status, and of `demo`, `serve_demo` and
+//! `contain_demo`, each by `run_jkd`. Read first: jk_commands' specs/Commands.antt, then specs/Demo.antt.
 //! Errors: the statuses 1 to 7, as `run_jkd` gives them.
 #![tactic(auto)]
 

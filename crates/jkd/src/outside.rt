@@ -1,10 +1,19 @@
 //! The order that was read, done over the system's files and streams and a world.
+ghost use Rattle.std.specs.Prelude.{◌≡◌, ◌↔◌, true, false, IfOk};
+ghost use Rattle.plain_commands.specs.Endings.{plain_side};
+ghost use Rattle.jk_server.specs.Commands.{telling};
+ghost use Rattle.jk_commands.specs.Commands.{DoesAsked};
+ghost use Rattle.jk_commands.specs.Ends.{status_of};
+ghost use Rattle.jk_commands.specs.Orders.{is_served, IsNoCommand};
+ghost use Rattle.jk_commands.specs.Plain.{EndsPlain};
+
 use crate::ahead_files::{Ahead, AheadFiles};
 use crate::telling::{asks_stop, reason, tell};
+use gear_parts::ToldWorld;
 use gear_worlds::{Trouble, World};
 use jk_cli::{Order, WordsError};
-use jk_commands::{let_go, run_jkd};
-use jk_io::{Bytes, Door};
+use jk_commands::{EndOf, JkdEnd, let_go, run_jkd};
+use jk_io::{Bytes, Door, Files, Sink, Source};
 use real_io::{RealFiles, StdIn, StdOut};
 use remarks::{CountedInput, Ended, KeptFiles, command_asked};
 use std::io::{Input, Write};
@@ -20,6 +29,29 @@ pub(crate) fn threads_of(asked: &Result<Order, WordsError>) -> u32 {
         Ok(Order::Container { threads, .. }) => threads.get(),
         _ => 0,
     }
+}
+
+/// Does what was read of the words, over any files, streams and world, and answers how it ended and the status that says so.
+fn do_in<F: Files, S: Source, O: Sink, W: World, R: AllocGlobal + Threads + Wait + Sync>(
+    rt: &R,
+    asked: &Result<Order, WordsError>,
+    files: &mut F,
+    input: &mut S,
+    out: &mut O,
+    world: &mut W,
+) -> (JkdEnd, u8)
+where
+    <W::D as Door>::L: Send,
+    ensures status { result.1 ≡ status_of result.0 }
+    ensures serves { IfOk asked.now (λ o. is_served o ≡ true → DoesAsked (telling F.Files O.Meanings ⟦<W as ToldWorld>⟧.told)
+        o (files.old, out.old, world.old) (files.new, out.new, world.new) result.0) }
+    ensures plain { IfOk asked.now (λ o. is_served o ≡ false → let s = plain_side F.Files S.Meanings O.Meanings in
+        EndsPlain o (s files.old input.old out.old) (s files.new input.new out.new) result.0) }
+    ensures no_command { (result.0 ≡ EndOf.Status 2) ↔ IsNoCommand asked.now }
+{
+    let end = run_jkd(rt, rt.alloc(), asked, files, input, out, world);
+    let status = end.status();
+    (end, status)
 }
 
 /// Does the command in this world, over the system's files and streams, of which some were read ahead. Tells a person of it, and
@@ -47,16 +79,7 @@ where
     let mut files = KeptFiles::new(rt.alloc(), AheadFiles::new(files, ahead));
     let mut input = CountedInput::new(StdIn::new(rt.reader()));
     let mut out = StdOut::new(rt);
-    let end = run_jkd(
-        rt,
-        rt.alloc(),
-        asked,
-        &mut files,
-        &mut input,
-        &mut out,
-        world,
-    );
-    let status = end.status();
+    let (end, status) = do_in(rt, asked, &mut files, &mut input, &mut out, world);
     let_go(end);
     if let Ok(reason) = reason(rt, asked, files.reads()) {
         let ended = Ended {
