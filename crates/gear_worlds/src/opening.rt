@@ -1,6 +1,6 @@
 //! What the real world opens: the socket that accepts clients, and files.
 ghost use Rattle.std.specs.Prelude.{◌≡◌, ◌++◌, IfOk, codes, map};
-ghost use Rattle.gear_worlds.specs.Files.{worker_file};
+ghost use Rattle.gear_worlds.specs.Files.{file_path, worker_file};
 
 use crate::journal_files::path_of;
 use jk_io::{Bytes, ListOf, NoMemory, put_decimal};
@@ -95,10 +95,17 @@ pub(crate) fn log_path(dir: &Bytes, number: u32) -> Result<Bytes, NoMemory>
     Ok(path)
 }
 
+/// The file with which the journal of a balancer begins.
+fn first_path(dir: &Bytes, lb: &Lb) -> Result<Bytes, NoMemory>
+    ensures { IfOk result (λ path. path ≡ file_path dir.now lb.now.name 0) }
+{
+    path_of(dir, lb.name.as_slice(), FIRST_NUMBER)
+}
+
 /// The first file that is there already of those with which the balancers' journals would begin, if there is one.
 pub(crate) fn taken<R: Files>(rt: &R, dir: &Bytes, lbs: &[Lb]) -> Result<Option<Bytes>, NoMemory> {
     for lb in lbs {
-        let path = path_of(dir, lb.name.as_slice(), FIRST_NUMBER)?;
+        let path = first_path(dir, lb)?;
         if is_there(rt, &path) {
             return Ok(Some(path));
         }

@@ -1,5 +1,7 @@
 //! How far each journal of a run is in files: its segments are written in order, whichever threads cut them, and a hold waits
 //! that might leave more entries in no file than may be lost.
+ghost use Rattle.std.specs.Prelude.{◌≡◌, ◌≢◌, ◌↔◌, ◌⊎◌, ◌+◌, ◌-◌, ◌^◌, ◌<◌, ◌≤◌, true, false, min, IsTrue};
+ghost use Rattle.gear_worlds.specs.Unkept.{MayBegin};
 
 use crate::unkept::Unkept;
 use jk_io::NoMemory;
@@ -24,12 +26,18 @@ struct Progress {
 }
 
 impl Progress {
-    fn is_before(&self, number: u64) -> bool {
+    // Whether it is still waited until the entries before this number are in files.
+    fn is_before(&self, number: u64) -> bool
+        ensures { IsTrue result ↔ (self.now.end < number) × (self.now.is_late ≡ false) }
+    {
         self.end < number && !self.is_late
     }
 
     // A second went by. Where no segment was written in it, they are late.
-    fn pass_a_second(&mut self, before: u64) {
+    fn pass_a_second(&mut self, before: u64)
+        ensures stood { self.old.end ≡ before → self.new ≡ record self.old { is_late = true } }
+        ensures went_on { self.old.end ≢ before → self.new ≡ self.old }
+    {
         if self.end == before {
             self.is_late = true;
         }
@@ -37,7 +45,13 @@ impl Progress {
 
     // Lets a hold begin that may add so many, if it may now, and says so. It always may where a segment is late, and where
     // the journal is never cut.
-    fn begins(&mut self, entries: u64, cut_at: u32) -> bool {
+    fn begins(&mut self, entries: u64, cut_at: u32) -> bool
+        ensures when { IsTrue result ↔ ((self.old.is_late ≡ true) ⊎ (cut_at ≡ 0) ⊎ MayBegin self.old.unkept entries cut_at) }
+        ensures entries { IsTrue result → self.new.unkept.entries ≡ min (self.old.unkept.entries + entries) (2 ^ 64 - 1) }
+        ensures holds { IsTrue result → self.new.unkept.holds ≡ min (self.old.unkept.holds + 1) (2 ^ 64 - 1) }
+        ensures unbegun { result ≡ false → self.new ≡ self.old }
+        ensures same { self.new ≡ record self.old { unkept = self.new.unkept } }
+    {
         if self.is_late || cut_at == 0 {
             self.unkept = self.unkept.with_hold(entries);
             return true;
@@ -52,19 +66,38 @@ impl Progress {
     }
 
     // Whether somebody waits is the answer of these two.
-    fn settle(&mut self, unused: u64) -> bool {
+    fn settle(&mut self, unused: u64) -> bool
+        ensures awaited { IsTrue result ↔ (0 < self.old.waiting) }
+        ensures entries { self.new.unkept.entries ≡ self.old.unkept.entries - unused }
+        ensures holds { self.new.unkept.holds ≡ self.old.unkept.holds - 1 }
+        ensures same { self.new ≡ record self.old { unkept = self.new.unkept } }
+    {
         self.unkept = self.unkept.settled(unused);
         self.waiting > 0
     }
 
-    fn come_to(&mut self, end: u64, entries: u64) -> bool {
+    // Entries came to files: those before this number, so many more. It is late no more.
+    fn come_to(&mut self, end: u64, entries: u64) -> bool
+        ensures awaited { IsTrue result ↔ (0 < self.old.waiting) }
+        ensures end { (self.old.end ≤ end → self.new.end ≡ end) × (end ≤ self.old.end → self.new.end ≡ self.old.end) }
+        ensures entries { self.new.unkept.entries ≡ self.old.unkept.entries - entries }
+        ensures holds { self.new.unkept.holds ≡ self.old.unkept.holds }
+        ensures in_time { self.new.is_late ≡ false }
+        ensures same { self.new.waiting ≡ self.old.waiting }
+    {
         self.end = self.end.max(end);
         self.unkept = self.unkept.without(entries);
         self.is_late = false;
         self.waiting > 0
     }
 
-    fn be_late(&mut self, lost: u64) {
+    // So many entries are lost. Nobody waits.
+    fn be_late(&mut self, lost: u64)
+        ensures entries { self.new.unkept.entries ≡ self.old.unkept.entries - lost }
+        ensures holds { self.new.unkept.holds ≡ self.old.unkept.holds }
+        ensures late { self.new.is_late ≡ true }
+        ensures same { (self.new.end ≡ self.old.end) × (self.new.waiting ≡ self.old.waiting) }
+    {
         self.unkept = self.unkept.without(lost);
         self.is_late = true;
     }
