@@ -1,4 +1,4 @@
-//! What follows from the definitions alone, whatever the calls do.
+//! Laws of the applications and of a container's turns: consequences of the definitions alone, whatever the calls do.
 ghost use Rattle.std.specs.Prelude.{◌≡◌, ℕ, ◌-◌, ◌^◌, ◌<◌, List, [], Bool, false, length, reverse, not, IsTrue};
 ghost use Rattle.std.specs.List.{AllByRecursion};
 ghost use Rattle.ajp_reply.specs.Stream.{Spelled};

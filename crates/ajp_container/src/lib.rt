@@ -3,7 +3,7 @@
 //!
 //! Source: AJPv1.3 reference, "Request Packet Structure", "Response Packet Structure", "Get Body Chunk", "CPing".
 //! Own rules: the applications, the secret of a request, when a body is asked for, what ends a talk or a worker
-//! (docs/DECISIONS.md).
+//! (docs/DECISIONS.md, "The container of jkd", has the last).
 //! Shapes: a packet's size counts its 4 bytes of head. Names of headers are looked up in either case. Lists of turns and
 //! of answers to asks have the newest first.
 //! Contract: `serve_ajp`, clause `talk`; `app_answer`, clause `answer`. Read first: specs/Pages.antt and specs/Answer.antt,

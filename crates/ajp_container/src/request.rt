@@ -1,4 +1,4 @@
-//! What the container looks at in a request.
+//! The parts of a request that choose the application and ask for a body.
 ghost use Rattle.std.specs.Prelude.{◌≡◌};
 ghost use Rattle.std.specs.Option.{option_copied};
 ghost use Rattle.std.specs.Str.{str_eq_ignore_ascii_case};

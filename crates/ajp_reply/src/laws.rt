@@ -1,4 +1,4 @@
-//! What follows from the spellings alone, whatever the calls do.
+//! Laws of the spellings of messages, whatever the calls do.
 
 ghost use Rattle.std.specs.Prelude.{◌≡◌, ℕ, List, ◌++◌, Bool, true};
 ghost use Rattle.ajp_wire.specs.Packet.{IsNoPacket, IsTooLong, IsPacket};

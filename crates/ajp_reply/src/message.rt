@@ -1,4 +1,4 @@
-//! What the container says.
+//! The container's messages, and the parts of a reply's head.
 
 use ajp_wire::HeadPairs;
 use jk_io::Bytes;

@@ -1,4 +1,4 @@
-//! What a Forward Request tells beside its headers.
+//! The attributes of a Forward Request, which stand after its headers.
 
 ghost use Rattle.std.specs.Prelude.{◌≡◌, is_some};
 ghost use Rattle.ajp_request.specs.Spelling.{stored_method};

@@ -1,4 +1,4 @@
-//! What follows from the spelling alone, whatever the calls do.
+//! Laws of the spelling of a Forward Request, whatever the calls do.
 ghost use Rattle.std.specs.Prelude.{◌≡◌, List, ℕ};
 ghost use Rattle.ajp_request.specs.declared.forward.Forward.{Forward};
 ghost use Rattle.ajp_request.specs.Spelling.{SpellsForward};

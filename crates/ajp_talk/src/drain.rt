@@ -1,4 +1,4 @@
-//! What comes of a reply after the client is gone.
+//! The rest of a reply whose client is gone.
 
 ghost use Rattle.std.specs.Prelude.{◌≡◌, ◌≤◌, ◌<◌};
 ghost use Rattle.ajp_wire.specs.Moments.{link_at};

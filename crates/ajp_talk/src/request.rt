@@ -1,4 +1,4 @@
-//! What opens a talk: the Forward Request, and the first piece of the body.
+//! The opening of a talk: the Forward Request, and the first piece of the body.
 
 ghost use Rattle.std.specs.Prelude.{◌≡◌, ◌≤◌, length, IfOk};
 ghost use Rattle.ajp_wire.specs.Moments.{link_at};

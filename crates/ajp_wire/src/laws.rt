@@ -1,4 +1,4 @@
-//! What follows from the spellings alone.
+//! A law of the spellings: no packet begins another.
 
 ghost use Rattle.std.specs.Prelude.{◌≡◌, List, ℕ, ◌++◌, Bool};
 ghost use Rattle.ajp_wire.specs.Packet.{packet};

@@ -1,4 +1,4 @@
-//! What stops a decoder: the first place from the left that can't be read, or want of memory.
+//! The end of a decoder that can't go on: the first place from the left that can't be read, or want of memory.
 ghost use Rattle.std.specs.Prelude.{◌≡◌, length};
 ghost use Rattle.ajp_wire.specs.Reading.{told};
 

@@ -10,6 +10,7 @@
 //! which entries were added, shows that the clauses of the trait suffice for the crates above. One in lawful.rt cites
 //! the laws of lb_model for what a call of a Book returned, so each law's premises are met by every Book. Those in
 //! even.rt keep the premises of the law of weights. `desk_checks` runs them.
+//! Source: own rules for how rows are written. Read first: src/judging.rt; of the callers src/callers.rt.
 //! Contract: `one_exchange`, clauses `held` and `ends`; `change_and_look`, clause `page`; of both `refused`, `added`, `due` and
 //! `kept`.
 //! Errors: those of the trait and of a Book.

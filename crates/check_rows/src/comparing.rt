@@ -1,4 +1,4 @@
-//! What came out of a row, beside what it wants.
+//! The comparison of a row with its end.
 use crate::row::{BlockRow, RowError};
 use std::alloc::Global;
 

@@ -20,6 +20,7 @@
 //! A row that comes out otherwise is shown.
 //! A caller in callers.rt is generic over a link, a door or a reach. So its contract, which says what was read, written, left
 //! and noted, shows that the clauses of the trait suffice for the crates above.
+//! Source: own rules for how rows are written. Read first: src/rows.rt; of the callers src/callers.rt.
 //! Contract: `echo`, clause `echoed`; `pass_on`, clauses `passed` and `closed`; `ask`, clause `talk`;
 //! `speaks_between_talks`, clause `refused`; `quiet_talk`, over a reach in memory, clause `steady`.
 //! Errors: those of the traits.

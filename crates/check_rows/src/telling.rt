@@ -1,4 +1,4 @@
-//! What comes out of a row, as its words.
+//! The words by which a row is told.
 
 use jk_io::NoMemory;
 use std::fmt::{Debug, Write};

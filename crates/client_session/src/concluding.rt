@@ -1,4 +1,4 @@
-//! What an exchange's end, or a status worker's answer, means to its session.
+//! The end of an exchange, or a status worker's answer, as a turn of its session.
 ghost use Rattle.std.specs.Prelude.{◌≡◌, [], vec_capacity, IsSome};
 ghost use Rattle.http_out.specs.Own.{own_of};
 ghost use Rattle.client_session.specs.Concluding.{HoldsName, IsConclusion, IsKnownStop, IsMemberRow, IsWithin, cut_settled, own_settled, refused_settled, settled_by};

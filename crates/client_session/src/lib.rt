@@ -2,7 +2,7 @@
 //!
 //! Source: RFC 9112, "Connection Management"; the Tomcat Connectors reference for mounts and status workers.
 //! Own rules: the causes of a session's end, the count of its requests, when 100 Continue is sent, which answers the
-//! connector makes itself (docs/DECISIONS.md).
+//! connector makes itself (docs/DECISIONS.md; docs/FORMATS.md, "Replies to a client").
 //! Shapes: what is known between two steps is a `ClientStanding`; a request leads from one to the next.
 //! Contract: `serve_session`: `session`, all requests and the end, the client's bytes and the rows, and what is kept;
 //! `each`, what follows of each session that ends so; `idle_only`. Read first: specs/Whole.antt, then specs/Sessions.antt and

@@ -1,4 +1,4 @@
-//! What a request means to its session.
+//! Tests of a request: HEAD, a client that waits for 100 Continue, the last one of its session.
 ghost use Rattle.std.specs.Prelude.{◌≡◌, ◌<◌};
 ghost use Rattle.exchange.specs.Requests.{is_head as is_head_of};
 ghost use Rattle.client_session.specs.Requests.{awaits_continue as is_awaited, has_body as has_body_by, is_last as is_last_of};

@@ -1,4 +1,4 @@
-//! What a session is served by.
+//! The site of a session: configuration, map, the worker's number, the client's address. Nothing here changes.
 
 use jk_io::Peer;
 use site_config::Config;

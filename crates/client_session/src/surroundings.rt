@@ -1,4 +1,4 @@
-//! What a session is served with.
+//! The means of a session, which it changes: desk, clock, reach, client, inbox.
 
 use http_front::Inbox;
 

@@ -1,4 +1,4 @@
-//! What a request comes to.
+//! The turn of a session that one request is: how it was answered, and whether a next one follows.
 ghost use Rattle.std.specs.Prelude.{◌≡◌, None};
 ghost use Rattle.client_session.specs.declared.turn.Answered.TheVariants as answered_is;
 

@@ -1,4 +1,4 @@
-//! What a talk is begun with, and its begin over a link that was dialled.
+//! A member that a talk is asked for, and the talk's begin over a link that was dialled.
 ghost use Rattle.std.specs.Prelude.{◌≡◌, true, None, Ok, IsOk, IsErrOf, IfOk, IsSomeAnd, OnOk, OnErr};
 ghost use Rattle.jk_io.specs.Told.{IsEmpty, HasCause};
 ghost use Rattle.jk_io.specs.Talks.{failed_talk};

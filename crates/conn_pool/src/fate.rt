@@ -1,4 +1,4 @@
-//! What becomes of an idle link.
+//! The fate of an idle link that is looked at.
 
 /// What becomes of an idle link that is looked at.
 pub enum Fate<A> {

@@ -1,4 +1,4 @@
-//! What came of looking at idle links.
+//! The counts of a look at idle links.
 ghost use Rattle.std.specs.Prelude.{◌≡◌};
 
 /// How many links were idle too long, didn't answer, were closed for want of memory, and were kept.

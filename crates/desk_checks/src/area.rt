@@ -1,4 +1,4 @@
-//! What the rows of each file are about.
+//! The area of desks: the subject of each file of rows.
 
 use crate::{desks, sites};
 use anyhow::Result;

@@ -1,4 +1,4 @@
-//! What the rows of each file are about.
+//! The area of Books: the subject of each file of rows.
 
 use crate::{books, queries};
 use anyhow::Result;

@@ -1,4 +1,4 @@
-//! What is told of any desk.
+//! Tellings of any desk.
 
 use check_lines::Once;
 use check_lines::calls::tell_stray;

@@ -1,4 +1,4 @@
-//! What is told of a Site. The tickets that its selects made are held here, and come back by their number.
+//! A row over a Site. The tickets that its selects made are held here, and come back by their number.
 ghost use Rattle.std.specs.Prelude.{◌≡◌, ◌<◌, All, IfSome, length};
 
 use crate::leases::{give_all_back, give_up, keep, take};

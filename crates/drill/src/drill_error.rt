@@ -1,4 +1,4 @@
-//! What a drill hands out, and why it hands out none.
+//! A drill that was done, and the reasons why one hands out nothing.
 ghost use Rattle.std.specs.Prelude.{◌≡◌};
 ghost use Rattle.drill.specs.Written.{status_of_error};
 

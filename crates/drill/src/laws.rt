@@ -1,4 +1,4 @@
-//! What follows from the definitions alone, whatever the calls do.
+//! Laws of a talk's two ends: consequences of the definitions alone, whatever the calls do.
 ghost use Rattle.drill.specs.FirstGet.{FirstGet};
 ghost use Rattle.drill.specs.FirstPost.{FirstPost};
 ghost use Rattle.drill.specs.Meeting.{EndToEnd, EndToEndOfExchange, GoesOn};

@@ -2,7 +2,7 @@
 //! journal tells afterwards whether each request was answered. And the laws of a connector's talk and a container's at the two ends
 //! of one link: what the definitions of both say together.
 //!
-//! Own rules: which requests are made, the links in memory, the summary, and that a drill is lost exactly where its journal
+//! Source: own rules: which requests are made, the links in memory, the summary, and that a drill is lost exactly where its journal
 //! lacks a request (docs/DECISIONS.md). The laws' definitions are those of exchange, ajp_talk and ajp_container, over AJPv1.3's
 //! spellings.
 //! Shapes: requests are numbered from 0, and thread t makes those with t as the rest by the number of threads, in sessions of

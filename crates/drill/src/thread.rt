@@ -1,4 +1,4 @@
-//! What one thread of a drill does: its requests, in sessions of at most a thousand.
+//! One thread of a drill: its requests, in sessions of at most a thousand.
 ghost use Rattle.std.specs.Prelude.{◌≡◌, IfOk, IfSome};
 ghost use Rattle.exchange.specs.Requests.{sizes_of};
 ghost use Rattle.status_worker.specs.Desks.{KeepsTickets};

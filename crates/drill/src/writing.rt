@@ -1,4 +1,4 @@
-//! What a drill hands out, written.
+//! A drill's order, and its summary or its journal, written.
 ghost use Rattle.std.specs.Prelude.{◌≡◌, ◌≤◌};
 ghost use Rattle.drill.specs.Written.{RunsDrill, WritesTold, status_of};
 ghost use Rattle.drill.specs.declared.plan.TheConstants.{MAX_REQUESTS, MAX_THREADS};

@@ -1,4 +1,4 @@
-//! What a balancer is asked for a request, and how a member's talks go.
+//! The ask of a request to its balancer, and the plan of a member's talks.
 ghost use Rattle.std.specs.Prelude.{◌≡◌, ◌≤◌, length, IfOk, OnOk, Err};
 ghost use Rattle.ajp_request.specs.Writing.{Fits};
 ghost use Rattle.ajp_talk.specs.Ends.{IsPlan};

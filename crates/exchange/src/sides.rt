@@ -1,4 +1,4 @@
-//! What an exchange is held with.
+//! The means of an exchange: desk and clock, and the two sides of a talk, the reach and the client.
 
 use http_front::{BodyIn, Inbox};
 

@@ -1,4 +1,4 @@
-//! What becomes of a request after a talk, and after a round.
+//! The verdict after a talk, and after a round: again, or how the lease goes back.
 ghost use Rattle.std.specs.Prelude.{◌≡◌, ◌≤◌, ◌^◌, ◌<◌, length};
 ghost use Rattle.exchange.specs.Ends.{bytes_of as bytes_in, is_negated as is_negated_in, is_status as is_a_status, kind_after as kind_after_talk, kind_of_cause as kind_by, outcome_for, tries_again as tries_once_more};
 ghost use Rattle.exchange.specs.Steps.{after as after_talk, after_bad_body as after_bad, after_client as after_gone, after_failure as after_failed, verdict_for};

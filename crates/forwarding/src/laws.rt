@@ -1,4 +1,4 @@
-//! What follows from the definitions alone, whatever the calls do.
+//! Laws of a Forward Request for a member and of its first piece, whatever the calls do.
 ghost use Rattle.std.specs.Prelude.{◌≡◌, ℕ, ◌≤◌, List, [], ◌∷◌, ◌++◌};
 ghost use Rattle.std.specs.List.{All};
 ghost use Rattle.ajp_request.specs.declared.forward.Forward.{Forward};

@@ -1,4 +1,4 @@
-//! What all workers of a run ask.
+//! The values that all workers of a run share: the Site, the pools, the configuration, the watch, the logs' format.
 ghost use Rattle.std.specs.Prelude.{◌≡◌, ◌<◌};
 ghost use Rattle.std.specs.Option.{ForSome};
 ghost use Rattle.conn_pool.specs.Idle.{counts};

@@ -2,6 +2,7 @@
 //!
 //! A gear is a door, a dial, a tape, a clock, a shelf and maybe a log. A connector's worker works with a part, which has a desk
 //! in the place of the shelf, and puts the rows of its requests into the log; a container's worker uses the door alone.
+//! Source: own rules for what a worker uses, and for the shelf that gets the rest of a journal (docs/DECISIONS.md, "Closing").
 //! Contract: the trait `World`; `take_gears`, clauses `taken`, `made`, `suited` and `refused`, and `give_back`, clause `came_back`;
 //! `first_moment`, clauses `given` and `started`; `part_of`, and `gear_of`, clauses `gear` and `desk`;
 //! `log_gears`, clauses `given` and `refused`;

@@ -1,4 +1,4 @@
-//! What gears are ordered for.
+//! The order by which each gear of a run is taken of the world.
 ghost use Rattle.std.specs.Prelude.{◌≡◌, None};
 ghost use Rattle.gear_parts.specs.Wants.{container_wants, wants_of};
 

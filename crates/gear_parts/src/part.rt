@@ -1,4 +1,4 @@
-//! What a worker works with.
+//! A worker's part: door, reach, clock, desk and log.
 
 use lb_shared::{SharedDesk, Shelf, SiteName};
 

@@ -1,8 +1,8 @@
-//! What the workers of `serve` and `container` use of the outside, made for each of them and given back.
+//! Worlds that hand out gears for the workers of `serve` and `container`, and get them back.
 //!
 //! A gear is a door, a dial, a tape, a clock, a shelf and maybe a log. A world in memory tells what it handed out and
 //! what came back; the real one is made of sockets, files and the system's clock, and tells nothing of contents.
-//! Own rules: all gears of the real world accept from one socket; a segment goes into a new file named after its balancer
+//! Source: own rules: all gears of the real world accept from one socket; a segment goes into a new file named after its balancer
 //! and its first number (docs/FORMATS.md, "Journal text").
 //! Contract: the trait `World` of gear_parts; `MemWorld`'s own clauses; `segment_file` and the laws of `laws`.
 //! Read first: src/world.rt of gear_parts, then specs/Worlds.antt and specs/Files.antt.

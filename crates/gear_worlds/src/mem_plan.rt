@@ -1,4 +1,4 @@
-//! What a gear in memory is made of.
+//! The plan of a gear in memory: its clients, its accepts that fail, its dial, clock and shelf.
 ghost use Rattle.std.specs.Prelude.{◌≡◌, [], None};
 ghost use Rattle.gear_worlds.specs.Worlds.{at_most, empty_plan, gear_of};
 

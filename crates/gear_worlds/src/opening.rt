@@ -1,4 +1,4 @@
-//! What the real world opens: the socket that accepts clients, and files.
+//! The openings of the real world: the socket that accepts clients, and files.
 ghost use Rattle.std.specs.Prelude.{◌≡◌, ◌++◌, IfOk, codes, map};
 ghost use Rattle.gear_worlds.specs.Files.{file_path, worker_file};
 

@@ -1,4 +1,4 @@
-//! What went wrong in the real world, for a person to read.
+//! Troubles of the real world, for a person to read.
 
 use std::io;
 use thiserror::Error;

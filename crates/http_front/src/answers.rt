@@ -1,4 +1,4 @@
-//! What reading a head answers, and what a head is refused for.
+//! The answers of a read of a head, and the reasons for which a head is refused.
 use crate::head::Head;
 use jk_io::{IoError, NoMemory};
 use std::alloc::{AllocError, AllocFailed};

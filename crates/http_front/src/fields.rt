@@ -1,4 +1,4 @@
-//! What the field lines of a head say: the value of a name that may stand once, and words in lists.
+//! Readings of a head's field lines: the value of a name that may stand once, and words in lists.
 ghost use Rattle.std.specs.Prelude.{◌≡◌, codes};
 ghost use Rattle.http_front.specs.Fields.{is_named, named, same_word, has_word, says_close, says_expect};
 ghost use Rattle.http_front.specs.Lone.{IsLone};

@@ -1,4 +1,4 @@
-//! What a parsed head is refused for, and the head that it is where nothing refuses it.
+//! The judgement on a parsed head: its first refusal, or the head that it is.
 ghost use Rattle.std.specs.Prelude.{◌≡◌, Ok, Err, IfOk, IfErr, MatchResult};
 ghost use Rattle.http_front.specs.Judged.{judged_of, head_of};
 ghost use Rattle.http_front.specs.Makes.{Makes};

@@ -1,4 +1,4 @@
-//! What the Content-Length lines of a reply say together.
+//! The length that the Content-Length lines of a reply give together.
 ghost use Rattle.std.specs.Prelude.{◌≡◌, codes};
 ghost use Rattle.http_front.specs.Fields.{is_named};
 ghost use Rattle.http_out.specs.Head.{length_said, length_in, next_said};

@@ -1,4 +1,4 @@
-//! What has gone to the client.
+//! The passage of a reply to its client: whether a byte was written, and whether a write failed.
 ghost use Rattle.std.specs.Prelude.{◌≡◌, ◌≤◌, ◌||◌, IsErrOf};
 ghost use Rattle.jk_io.specs.Told.{Rose};
 ghost use Rattle.http_out.specs.Passage.{IsCalm, IsSent};

@@ -1,4 +1,4 @@
-//! What the words can ask for.
+//! Orders: the commands with their words read.
 use crate::ranges::{ContainerRoute, DrillRequests, ThreadCount};
 use jk_io::{Bytes, ClientLimits, NoMemory};
 use thiserror::Error;

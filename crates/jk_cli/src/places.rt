@@ -1,4 +1,4 @@
-//! What stands in the words: those that are read by their place, and the options.
+//! The words of a command by their places, and its options.
 ghost use Rattle.std.specs.Prelude.{◌≡◌, [], ◌∷◌, MatchOption, option_map};
 ghost use Rattle.std.specs.Option.{option_copied};
 ghost use Rattle.jk_cli.specs.Parts.{end, flag_in, option_in, parts_of, places_in};

@@ -1,4 +1,4 @@
-//! What the words ask for, before any of them is copied.
+//! An order as it is read off the words, before any of them is copied.
 ghost use Rattle.std.specs.Prelude.{◌≡◌, IfOk, option_map};
 ghost use Rattle.std.specs.Option.{option_copied};
 ghost use Rattle.jk_cli.specs.Names.{command_in};

@@ -1,4 +1,4 @@
-//! What the words after each command's name ask for.
+//! The plans of the words after each command's name.
 ghost use Rattle.std.specs.Prelude.{◌≡◌, option_map};
 ghost use Rattle.std.specs.List.{list_all};
 ghost use Rattle.std.specs.Str.{is_utf8};

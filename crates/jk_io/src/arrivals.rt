@@ -1,4 +1,4 @@
-//! What a door answers to a worker that waits for a client.
+//! Arrivals: the answers of a door to a worker that waits for a client.
 ghost use Rattle.std.specs.Prelude.{◌+◌, ◌≡◌};
 ghost use Rattle.jk_io.specs.Doors.{Arrives, room_after, side};
 

@@ -1,4 +1,4 @@
-//! What a front lets its clients take.
+//! The limits of a front's clients: time, rate, how many wait.
 
 /// The limits of a front's clients. 0 is without limit, where none makes sense.
 #[derive(Clone, Copy, Debug, PartialEq, Eq)]

@@ -2,7 +2,7 @@
 //!
 //! A trait's meanings, such as the bytes that are still to come, are told by the objects in memory and not by the
 //! real thing: each is an option, and one equation holds of both.
-//! Own rule: a call fails only where the object's count of faults rose in it, and after a refusal nothing was given
+//! Source: an own rule: a call fails only where the object's count of faults rose in it, and after a refusal nothing was given
 //! or taken.
 //! Contract: each trait's clauses; `next_client`, by which a worker takes a door's clients one after the other and leaves
 //! their links there. Read first: specs/Told.antt, then src/traits/streams.rt; specs/Doors.antt for doors.

@@ -1,4 +1,4 @@
-//! What a stream, a file, a clock, a dial, a door and a reach are to the rest.
+//! The traits of the outside: streams, files, clocks, dials, doors and reaches.
 pub(crate) mod reach;
 pub(crate) mod streams;
 pub(crate) mod surroundings;

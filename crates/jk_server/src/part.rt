@@ -1,4 +1,4 @@
-//! What a worker works with, why it ends, and what it leaves.
+//! A worker's post, the reasons why it ends, and all that it leaves.
 
 use jk_io::ListOf;
 use lb_shared::SiteStray;

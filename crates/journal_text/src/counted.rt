@@ -1,3 +1,4 @@
+//! Segments as a text has them: with their balancer's name, and how many lines they take.
 use jk_io::{Bytes, ListOf};
 use lb_model::{EntryList, Opening, Segment};
 

@@ -1,4 +1,4 @@
-//! What a line of a journal's text says.
+//! The lines of a journal's text, as values.
 use jk_io::Bytes;
 use lb_model::{Activation, Entry, MemberState, Method};
 

@@ -1,4 +1,4 @@
-//! What the words of a line say, read off from the first one on.
+//! Readings of a line's words, from the first one on.
 ghost use Rattle.std.specs.Prelude.{◌≡◌, ℕ, ◌-◌, ◌==◌, IfOk, IfSome, if◌then◌else◌};
 ghost use Rattle.journal_text.specs.Readings.{answer_by, answer_of, ask_after, ask_of, balancer_after, balancer_of, beginning_of, call_by, call_of, call_size, change_of, chosen_of, command_of, command_size, end_line, entry_after, entry_of, lease_line, member_after, member_of, past, plain_line, return_of, rules_line, update_of};
 ghost use Rattle.lb_model.specs.Legal.{KnowsTerms};

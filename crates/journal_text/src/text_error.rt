@@ -1,3 +1,4 @@
+//! The reasons why a text isn't read.
 use jk_io::NoMemory;
 use thiserror::Error;
 

@@ -1,4 +1,4 @@
-//! What is known of the bytes so far.
+//! The state of a follower: the machine and the next line's number, or why it stopped.
 use crate::error::FollowError;
 use crate::machine::Machine;
 

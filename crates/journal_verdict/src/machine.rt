@@ -1,4 +1,4 @@
-//! What is known after some lines, and what a further line makes of it.
+//! A machine over the lines of a journal, which takes one after the other.
 ghost use Rattle.std.specs.Prelude.{◌≡◌, ◌+◌, ◌<◌, ◌^◌, IfErr, IfOk, OnOk, true, false, None, Some};
 ghost use Rattle.lb_model.specs.Validity.{IsOpening};
 ghost use Rattle.journal_text.specs.Kept.{IsSound};

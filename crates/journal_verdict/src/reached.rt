@@ -1,4 +1,4 @@
-//! What the segments of a text come to, as far as they are read.
+//! The end of the segments that were read so far, and their counts.
 
 use crate::ruling::Verdict;
 use jk_io::Bytes;

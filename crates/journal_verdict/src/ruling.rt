@@ -1,3 +1,4 @@
+//! Verdicts: the first line that is wrong, with what it has and what it ought to have.
 use jk_io::Bytes;
 use lb_model::Answer;
 

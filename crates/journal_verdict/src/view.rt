@@ -1,3 +1,4 @@
+//! A balancer as its journal's text shows it.
 use jk_io::Bytes;
 use lb_model::{Method, View};
 

@@ -1,4 +1,4 @@
-//! What a Book keeps beside its opening while no entry is kept.
+//! The tables of a Book that has no entry yet, from its opening.
 
 ghost use Rattle.std.specs.Prelude.{◌≡◌, ℕ, [], length, IfOk, vec_capacity};
 ghost use Rattle.lb_model.specs.Multiple.{multiple_of};

@@ -1,4 +1,4 @@
-//! What halving makes of loads that differ.
+//! A law of halving: loads that differ may become equal.
 ghost use Rattle.std.specs.Prelude.{◌≡◌, ◌+◌, ◌*◌, ◌<◌};
 ghost use Rattle.lb_model.specs.Loads.{halved};
 

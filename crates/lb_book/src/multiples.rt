@@ -1,4 +1,4 @@
-//! What the least common multiple of the members' factors means.
+//! A law of the least common multiple of the members' factors.
 ghost use Rattle.std.specs.Prelude.{◌↔◌, ℕ, ◌<◌, ◌≤◌, ◌^◌, All, IfSome, IsNone};
 ghost use Rattle.lb_book.specs.Multiples.{IsCommon, IsLeastCommon};
 

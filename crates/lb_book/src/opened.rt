@@ -1,4 +1,4 @@
-//! What a Book begins with: the rows of its opening, and the opening of a start.
+//! The rows of an opening, and the opening of a start.
 
 ghost use Rattle.std.specs.Prelude.{◌≡◌, ℕ, ◌<◌, ◌/◌, ◌%◌, ◌^◌, List, length, map, replicate, All, IfOk, slice_index_or};
 ghost use Rattle.lb_model.specs.declared.view.MemberRow.{MemberRow};

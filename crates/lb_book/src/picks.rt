@@ -1,4 +1,4 @@
-//! What the answers to an ask mean.
+//! Laws of the answers to an ask.
 ghost use Rattle.std.specs.Prelude.{◌≡◌, ◌↔◌, ◌++◌, reverse};
 ghost use Rattle.lb_model.specs.Choice.{IsPick};
 ghost use Rattle.lb_model.specs.declared.journal.Answer.{Answer};

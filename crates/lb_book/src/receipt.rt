@@ -1,4 +1,4 @@
-//! What a desk keeps of each call that added an entry to a journal.
+//! Receipts: a desk keeps one of each call that added an entry.
 use jk_io::ListOf;
 use lb_model::Entry;
 

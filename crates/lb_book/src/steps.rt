@@ -1,4 +1,4 @@
-//! What an entry makes of the row of a member that it touches.
+//! The step of a member's row at an entry that touches it.
 
 ghost use Rattle.std.specs.Prelude.{◌≡◌, ◌+◌, ◌*◌, ◌<◌, ◌≤◌};
 ghost use Rattle.lb_model.specs.Loads.{load_by};

@@ -1,4 +1,4 @@
-//! What the desks of a Site brought together.
+//! The shares, receipts, shelves and seats of all desks of a Site, brought together.
 ghost use Rattle.std.specs.Prelude.{◌≡◌, ◌+◌, ◌<◌, ◌≤◌, ◌↔◌, ◌++◌, [], ◌∷◌, false, length, map, sum_by, IfOk, OnOk, vec_len, vec_capacity};
 ghost use Rattle.std.specs.List.{All, flat_map};
 ghost use Rattle.lb_closing.specs.Closings.{noted};

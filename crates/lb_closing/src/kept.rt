@@ -1,4 +1,4 @@
-//! What the Books keep.
+//! The entries that the Books keep, and whether these are all.
 ghost use Rattle.std.specs.Prelude.{◌≡◌, ◌+◌, ◌≤◌, ◌++◌, ◌↔◌, length, map, true, IfOk, OnOk};
 ghost use Rattle.lb_book.specs.PlainDesks.{AreLegal};
 ghost use Rattle.lb_shared.specs.Sites.{added_in};

@@ -1,6 +1,6 @@
 //! Closing the desks of a run: their shares come together again, and their receipts are compared with the kept entries.
 //!
-//! Own rule: the comparison is made where no desk forgot a receipt and no journal was cut (docs/DECISIONS.md).
+//! Source: an own rule: the comparison is made where no desk forgot a receipt and no journal was cut (docs/DECISIONS.md).
 //! Shapes: entries are compared with their balancers, in the order of balancers and numbers.
 //! Contract: `close_desks`, clauses `counted`, `once` and `differs`; `close_own_desks`, clauses `history` and `whole`. Read first:
 //! specs/Closings.antt; then specs/OneHistory.antt.

@@ -1,3 +1,4 @@
+//! The ask of a session to its balancer, and the terms of the mount rule that led there.
 ghost use Rattle.std.specs.Prelude.{◌≡◌, None, false};
 
 /// What a session asks of its balancer. In each of the three sets bit m stands for member m.

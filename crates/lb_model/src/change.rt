@@ -1,3 +1,4 @@
+//! The commands of a status worker.
 use crate::member::Activation;
 
 /// What an update does with a member's redirect.

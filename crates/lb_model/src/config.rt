@@ -1,3 +1,4 @@
+//! A balancer's configuration, and its ranges.
 ghost use Rattle.std.specs.Prelude.{◌≡◌, ℕ, ◌<◌, ◌≤◌, ◌^◌, ◌↔◌, length, take, map, slice_set, IfOk, IfErr, IsTrue, MatchOption};
 ghost use Rattle.lb_model.specs.Ranges.{AreInRange, IsCount, IsFirstBad, IsInRange, IsPeriod, IsRefused, factors_in, redirects_within};
 ghost use Rattle.lb_model.specs.Multiple.{multiple_of};

@@ -1,3 +1,4 @@
+//! The reasons why a balancer's configuration is refused.
 use thiserror::Error;
 
 /// Why a balancer's configuration is refused.

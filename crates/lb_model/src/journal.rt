@@ -1,3 +1,4 @@
+//! Entries of a journal: calls, answers, and the outcomes of exchanges.
 use crate::ask::Ask;
 use crate::change::Command;
 use jk_io::ListOf;

@@ -1,4 +1,4 @@
-//! What the definitions mean, as functions without a body whose contracts are laws.
+//! Laws of the definitions, as functions without a body.
 //!
 //! A past is written oldest first, as a journal keeps it. `rules` is 1 or 2.
 ghost use Rattle.std.specs.Prelude.{◌≡◌, ℕ, Bool, ◌+◌, ◌<◌, ◌≤◌, ◌==◌, ◌&&◌, length, true, false, ◌∷◌, ◌++◌, reverse, sum_by};

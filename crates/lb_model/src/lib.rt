@@ -1,7 +1,8 @@
 //! The balancer's plain types, and all definitions that speak of it.
 //!
 //! Source: Apache Tomcat Connectors reference, "workers.properties" and "LoadBalancer HowTo".
-//! Own rules: the form of loads, the probe and revival rules, ties, and the ranges (docs/DECISIONS.md).
+//! Own rules: the form of loads, the probe and revival rules, ties (docs/DECISIONS.md), and the ranges (docs/FORMATS.md).
+//! Contract: the types' own, and the laws of `laws`.
 //! Read first: specs/Journal.antt, then specs/Tickets.antt, States.antt, Loads.antt, Choice.antt, Legal.antt.
 //! Errors: `ConfigError`; `RoomError`, `AdminError` and `Stray` are what a Book answers.
 #![tactic(auto)]

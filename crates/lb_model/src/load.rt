@@ -1,3 +1,4 @@
+//! Halvings of a load.
 ghost use Rattle.std.specs.Prelude.{◌≡◌, ◌/◌, ◌^◌};
 
 /// A load after `times` halvings, rounded down.

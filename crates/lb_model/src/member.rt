@@ -1,3 +1,4 @@
+//! Members of a balancer, as they are configured.
 ghost use Rattle.std.specs.Prelude.{◌≡◌, IfOk};
 
 use jk_io::{Bytes, ListOf, NoMemory};

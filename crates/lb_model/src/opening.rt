@@ -1,3 +1,4 @@
+//! Openings, with which a journal begins.
 ghost use Rattle.std.specs.Prelude.{◌↔◌, IsTrue};
 
 use crate::config::LbConfig;

@@ -1,3 +1,4 @@
+//! Refusals of a Book, and strays.
 use jk_io::NoMemory;
 use std::alloc::AllocError;
 use thiserror::Error;

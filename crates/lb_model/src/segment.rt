@@ -1,3 +1,4 @@
+//! Segments of a journal, and the number of today's rules.
 ghost use Rattle.lb_model.specs.Segments.{AreKeptEntries, AreRules};
 ghost use Rattle.lb_model.specs.Validity.{IsOpening};
 

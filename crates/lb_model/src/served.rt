@@ -1,3 +1,4 @@
+//! Answered requests, as rows for a log.
 use jk_io::Bytes;
 
 /// What the client asked for.

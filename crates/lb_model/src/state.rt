@@ -1,3 +1,5 @@
+//! The four states of a member.
+
 /// The state of a member.
 #[derive(Clone, Copy, PartialEq, Eq)]
 pub enum MemberState {

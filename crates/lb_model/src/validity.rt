@@ -1,3 +1,4 @@
+//! The test whether a journal may begin with an opening.
 ghost use Rattle.std.specs.Prelude.{◌≡◌, ℕ, ◌+◌, ◌*◌, ◌/◌, ◌^◌, ◌≤◌, ◌<◌, ◌==◌, ◌&&◌, ◌↔◌, length, reverse, count_by, IsTrue, Bool};
 ghost use Rattle.std.specs.List.{list_any};
 ghost use Rattle.lb_model.specs.Limits.{most_numbers};

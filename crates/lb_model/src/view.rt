@@ -1,3 +1,4 @@
+//! Views of a balancer.
 ghost use Rattle.std.specs.Prelude.{◌≡◌, IfOk};
 ghost use Rattle.lb_model.specs.Rows.{HaveRedirectsWithin};
 

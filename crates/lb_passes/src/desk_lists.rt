@@ -1,4 +1,4 @@
-//! What a desk keeps of its calls.
+//! The lists of a desk over pass books: its receipts, and the tickets that it holds.
 ghost use Rattle.std.specs.Prelude.{◌+◌, ◌≤◌, length, vec_capacity};
 
 use lb_book::Receipt;

@@ -1,6 +1,6 @@
 //! Desks over one Book whose callers take turns, and know what they have seen.
 //!
-//! Own rules: turns, passes and notes (docs/DEFINITIONS.md). Behind a lock a caller knows nothing of the hold before its own;
+//! Source: own rules: turns, passes and notes (docs/DEFINITIONS.md). Behind a lock a caller knows nothing of the hold before its own;
 //! here each caller has a legal history that begins with all that it had seen.
 //! Shapes: a pass is a caller's place at a `PassBook` and has the caller's number, which is the session of its entries; a
 //! `PassDesk` has a pass for each balancer. A note carries what was seen to another caller. A history is oldest entry first and

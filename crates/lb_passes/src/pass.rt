@@ -1,4 +1,4 @@
-//! What a caller has: a pass, and notes of what it has seen.
+//! A caller's pass, and notes of its part of the history.
 ghost use Rattle.std.specs.Prelude.{◌≡◌, true};
 ghost use Rattle.lb_passes.specs.Holds.{IsIdle, IsNote};
 

@@ -1,4 +1,4 @@
-//! What a caller knows of the one history. No value of these types is made: proofs alone speak of them.
+//! A caller's view of the one history. No value of these types is made: proofs alone speak of them.
 
 use lb_model::{Entry, Opening};
 use std::collections::LinkedList;

@@ -1,4 +1,4 @@
-//! What a Select answers.
+//! The answer of a Select.
 
 ghost use Rattle.std.specs.Prelude.{◌≡◌, ℕ, ◌<◌, ◌≤◌, length, IfSome, slice_index_or, is_some, ◌&&◌};
 ghost use Rattle.std.specs.Option.{ForSome};

@@ -1,3 +1,4 @@
+//! The gain of a member's load by a choice, and by a return.
 ghost use Rattle.std.specs.Prelude.{◌≡◌, ◌*◌};
 ghost use Rattle.lb_model.specs.Loads.{units_chosen, units_returned};
 

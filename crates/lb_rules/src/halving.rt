@@ -1,3 +1,4 @@
+//! The count of halvings that a maintenance does.
 ghost use Rattle.std.specs.Prelude.{◌≡◌, ◌-◌, ◌<◌, ◌≤◌, ◌/◌};
 
 /// How many halvings a maintenance does at the moment `at`: one for each whole interval since the last one.

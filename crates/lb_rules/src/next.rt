@@ -1,3 +1,4 @@
+//! The next state of a member after it was touched.
 ghost use Rattle.std.specs.Prelude.{◌≡◌};
 ghost use Rattle.lb_model.specs.StateRows.{left_state, returned_state, maintained_state};
 ghost use Rattle.lb_rules.specs.Touched.{touched_state};

@@ -1,3 +1,4 @@
+//! Touches: the events that may change a member's state.
 use lb_model::Kind;
 
 /// What happens to a member. Moments and times are in seconds.

@@ -1,3 +1,4 @@
+//! The unit of a member, by which its requests weigh.
 ghost use Rattle.std.specs.Prelude.{◌≡◌, ◌<◌, ◌*◌, ◌/◌, ◌%◌};
 
 /// What one request weighs on a member with this factor: the greater the factor, the less. `lcm` is the least

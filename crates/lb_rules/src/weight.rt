@@ -1,4 +1,4 @@
-//! What a member weighs in a choice, and its weight as it is kept: the loads are halved only when they are looked at.
+//! The weight of a member in a choice, and as it is kept: the loads are halved only when they are looked at.
 
 ghost use Rattle.std.specs.Prelude.{◌≡◌, ◌≤◌, ◌<◌, length, map, slice_index_or};
 ghost use Rattle.lb_model.specs.Choice.{is_before_by};

@@ -1,4 +1,4 @@
-//! What a hold of the lock adds to: a part of the ledger, and receipts.
+//! The account that a hold of the lock adds to: a part of the ledger, and receipts.
 ghost use Rattle.std.specs.Prelude.{◌<◌};
 
 use crate::site::{SiteName, SiteReceipt};

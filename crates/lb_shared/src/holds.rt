@@ -1,4 +1,4 @@
-//! What is done under the lock, on one Book: a Maintain if due, and then a call, each entry with its receipt.
+//! One hold on one Book: a Maintain if due, and then a call, each entry with its receipt.
 ghost use Rattle.std.specs.Prelude.{◌≡◌, ◌≢◌, [], ◌∷◌, ◌++◌, ◌+◌, ◌<◌, ◌≤◌, length, slice_index, vec_len, vec_capacity, IfOk, IfErr, OnOk, OnErr};
 ghost use Rattle.lb_model.specs.declared.journal.Answer.{Answer};
 ghost use Rattle.lb_book.specs.Refused.{RefusesMaintain};

@@ -1,4 +1,4 @@
-//! What stands behind the lock: the Site, and the calls of one hold of it.
+//! The value behind the lock: the Site, and the calls of one hold of it.
 
 use crate::account::Account;
 use crate::holds::{choose_in, command_in, note};

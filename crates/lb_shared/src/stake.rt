@@ -1,4 +1,4 @@
-//! What a desk has of the Site that is shared, and each hold of the Site's lock: the value is taken, the call is made on it,
+//! A desk's stake of the Site that is shared, and each hold of the Site's lock: the value is taken, the call is made on it,
 //! and it goes home with its history.
 ghost use Rattle.std.specs.Prelude.{◌≡◌, ◌++◌, ◌+◌, ◌<◌, ◌≤◌, vec_len, vec_capacity, IfOk, OnErr, OnOk};
 ghost use Rattle.lb_book.specs.Desks.{is_pair, without_last};

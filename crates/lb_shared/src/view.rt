@@ -1,4 +1,4 @@
-//! What a seat at the lock knows. No value of these types is made.
+//! The view of a seat at the lock. No value of these types is made.
 
 use std::collections::LinkedList;
 

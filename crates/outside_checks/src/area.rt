@@ -1,4 +1,4 @@
-//! What the rows are about, and the claims on the system.
+//! The area of the outside: the subject of each file of rows, and the claims on the system.
 
 use crate::{gates, memory, pools, reaches, shared_pools, system};
 use anyhow::Result;

@@ -1,4 +1,4 @@
-//! What a worker writes to its client, held back until the worker waits: over sockets.
+//! An outbox over sockets: bytes to a client are held back until the worker waits.
 ghost use Rattle.std.specs.Prelude.{◌<◌};
 
 use crate::reading::length_read;

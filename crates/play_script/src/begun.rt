@@ -1,3 +1,4 @@
+//! The lines of a script up to its balancer's start.
 ghost use Rattle.std.specs.Prelude.{◌≡◌, ◌+◌, ◌<◌, ◌≤◌, ◌^◌, length, false, IfOk, IfSome};
 ghost use Rattle.std.specs.Option.{option_copied};
 ghost use Rattle.play_script.specs.Drafts.{draft_after, moment_after, names_in};

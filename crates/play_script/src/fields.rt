@@ -1,3 +1,4 @@
+//! Fields KEY=VALUE of a line.
 ghost use Rattle.std.specs.Prelude.{◌≡◌, ◌<◌, ◌^◌, List, ℕ, length, IfSome, option_map, codes};
 ghost use Rattle.std.specs.Option.{option_copied};
 ghost use Rattle.play_script.specs.Values.{value_of, past};

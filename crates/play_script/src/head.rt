@@ -1,3 +1,4 @@
+//! Lines of a script before its balancer starts: `lb` and `member`.
 ghost use Rattle.std.specs.Prelude.{◌≡◌, ℕ, ◌<◌, ◌^◌, List, ◌∷◌, Some, length, option_map};
 ghost use Rattle.play_script.specs.Heads.{rules_of, member_after, member_with, member_of, head_by, head_of};
 ghost use Rattle.play_script.specs.Values.{flag_of, method_of};

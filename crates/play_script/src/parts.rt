@@ -1,3 +1,4 @@
+//! A text taken apart at a byte, such as a line at its spaces.
 ghost use Rattle.std.specs.Prelude.{◌≡◌, ◌+◌, ◌≤◌, [], ◌∷◌, ◌==◌, MatchOption, length, position, option_copied};
 ghost use Rattle.std.specs.Str.{bytes_eq};
 ghost use Rattle.play_script.specs.Parts.{parts_of, parts_left};

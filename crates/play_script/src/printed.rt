@@ -1,3 +1,4 @@
+//! The lines that a script prints.
 ghost use Rattle.std.specs.Prelude.{◌≡◌, ◌++◌, OnOk, decimal};
 ghost use Rattle.play_script.specs.Printed.{name_at, how_words, probe_words, answer_line, state_word, row_line, row_lines, refusal_words, refusal_line};
 

@@ -1,3 +1,4 @@
+//! Lines of a script after its balancer started.
 ghost use Rattle.std.specs.Prelude.{◌≡◌, ℕ, ◌<◌, ◌^◌, List, [], length, false, true, None, Some, ◌≤◌, IfSome, option_map};
 ghost use Rattle.play_script.specs.Values.{end};
 ghost use Rattle.play_script.specs.Steps.{ask_of, old_ask, select_of, bytes_in, return_of, change_after, change_of, update_of, member_named, step_by, step_of, HasSmallBytes, IsSmall};

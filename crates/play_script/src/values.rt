@@ -1,3 +1,4 @@
+//! Single words of a script: counts, flags, methods, activations.
 ghost use Rattle.std.specs.Prelude.{◌≡◌, ◌≤◌, IfSome};
 ghost use Rattle.play_script.specs.Values.{number_up_to, short_number, byte_count, flag_of, method_of, activation_of};
 

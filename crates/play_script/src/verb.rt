@@ -1,3 +1,4 @@
+//! The words that a line may begin with.
 ghost use Rattle.std.specs.Prelude.{◌≡◌};
 ghost use Rattle.play_script.specs.Verbs.{verb_of};
 

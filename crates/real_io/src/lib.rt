@@ -1,7 +1,7 @@
 //! The outside as the system gives it: TCP doors, dials and links, files, the clock, standard input and output.
 //!
 //! They meet the traits of `jk_io`, and tell nothing of what they hold.
-//! Own rule: a call fails only where the object's count of faults rose in it, and after a refusal nothing was given
+//! Source: an own rule: a call fails only where the object's count of faults rose in it, and after a refusal nothing was given
 //! or taken. What a worker wrote to its client goes out before it reads or waits, by an `Outbox` that its door and its
 //! dial share.
 //! Contract: the traits' clauses. Read first: src/tcp_door.rt.

@@ -1,4 +1,4 @@
-//! What a worker wrote to its client and hasn't sent yet.
+//! The outbox of a worker: all that it wrote to its client and hasn't sent yet.
 ghost use Rattle.std.specs.Prelude.{◌≡◌, ◌<◌, ◌≤◌, ◌++◌, [], IfNone, IfSome, IsSome, None, false, length, not, take, true};
 ghost use Rattle.real_io.specs.Held.{GoesOn};
 ghost use Rattle.real_io.specs.Waitless.{IfCame};

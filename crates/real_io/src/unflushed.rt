@@ -1,4 +1,4 @@
-//! What a link has begun to write.
+//! The kind of the reply that a link has begun to write since its last flush.
 ghost use Rattle.std.specs.Prelude.{◌≡◌};
 ghost use Rattle.real_io.specs.Unflushed.{replies_after, unflushed_with};
 

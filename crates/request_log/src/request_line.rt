@@ -1,4 +1,4 @@
-//! What was asked: method, path and query, and the request line whole.
+//! The request in a log's line: method, path and query, and the request line whole.
 ghost use Rattle.std.specs.Prelude.{◌≡◌, ◌++◌, OnOk};
 ghost use Rattle.request_log.specs.Lines.{first_text, method_text, path_of, path_text, query_of, query_text, version_text};
 

@@ -1,4 +1,4 @@
-//! What was seen of a request besides its row.
+//! A request's address, moment and time, where they are known: for its log line, beside its row.
 use httpdate::HttpDate;
 use jk_io::Bytes;
 

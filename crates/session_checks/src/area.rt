@@ -1,4 +1,4 @@
-//! What the rows of each file are about.
+//! The area of talks and sessions: the subject of each file of rows.
 
 use crate::{containers, sessions, talks};
 use anyhow::Result;

@@ -1,4 +1,4 @@
-//! What is told of a session after its end.
+//! The outcome of a session, as words.
 ghost use Rattle.std.specs.Prelude.{◌≡◌, ◌<◌, length};
 
 use check_rows::telling::{part, put_bytes, put_plain, put_shown, put_word};

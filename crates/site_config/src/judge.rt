@@ -1,4 +1,4 @@
-//! What is wrong with one property, whatever stands in the other lines.
+//! The judgement on one property, whatever stands in the other lines.
 ghost use Rattle.std.specs.Prelude.{◌≡◌, []};
 ghost use Rattle.std.specs.List.{list_all};
 ghost use Rattle.std.specs.Option.{option_map};

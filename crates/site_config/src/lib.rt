@@ -3,7 +3,7 @@
 //!
 //! Source: Apache Tomcat Connectors reference, "workers.properties".
 //! Own rules: the ranges of all values, which the types keep; which of a member's time limits is in force (specs/Limits.antt); the
-//! numbers of the refusals, how lists are spelled (docs/DECISIONS.md).
+//! numbers of the refusals, how lists are spelled (docs/FORMATS.md, "workers.properties").
 //! Shapes: a line ends with LF or CR LF; a property is a line number, a key and a value without outer blanks.
 //! Contract: the types; `Config::find`; `MemberLimits`; `read_properties`. Read first: src/config.rt; for the files
 //! specs/Properties.antt, then specs/Meanings.antt and specs/Values.antt.

@@ -1,4 +1,4 @@
-//! What a line says: its key and its value are looked at once, here.
+//! A line's key and value, looked at once, here.
 ghost use Rattle.std.specs.Prelude.{◌≡◌, IfNone, IfSome, None};
 ghost use Rattle.std.specs.Str.{bytes_eq};
 ghost use Rattle.site_config.specs.Directives.{list_key, maintain_key, worker_part};

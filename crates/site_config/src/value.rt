@@ -1,4 +1,4 @@
-//! What the value of a line means, as its key takes it: each directive's range stands here alone.
+//! The value of a line, as its key takes it: each directive's range stands here alone.
 ghost use Rattle.std.specs.Prelude.{◌≡◌, ◌≤◌, IfSome};
 ghost use Rattle.site_config.specs.Meanings.{meaning_of, other_value, period_of, range_of, text_if, value_of};
 ghost use Rattle.lb_model.specs.declared.config.TheConstants.{MAX_PERIOD_SECONDS};

@@ -1,4 +1,4 @@
-//! What the values of directives mean.
+//! The words that directives take as values.
 ghost use Rattle.std.specs.Prelude.{◌≡◌, ◌==◌, ◌||◌, ◌≤◌, ◌^◌, ◌<◌, length, List, Some, [], IfSome, IfOk, nat_lt};
 ghost use Rattle.std.specs.Option.{option_map, is_some};
 ghost use Rattle.std.specs.List.{list_any, list_all};

@@ -1,6 +1,6 @@
 //! A site of two files: how they are read and judged, the lines that are printed of it, and its Books as they start.
 //!
-//! Source: own rules for the lines (docs/FORMATS.md, "config" and "match").
+//! Source: own rules for the lines (docs/FORMATS.md, "workers.properties" and "uriworkermap.properties").
 //! Contract: `put_config`, which adds `config_text`, and `put_matches`, which adds `match_text`. Read first:
 //! specs/ConfigText.antt, specs/Matches.antt. `read_site`, clause `ok`, reads both files and judges them: specs/Sites.antt.
 //! For the commands above, which read the files: specs/Readings.antt. `books_of` has a Book for each balancer: specs/Starts.antt.

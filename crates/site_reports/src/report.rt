@@ -1,4 +1,4 @@
-//! What a command prints of a site's files.
+//! Reports on a site's files, as `config` and `match` print them.
 ghost use Rattle.std.specs.Prelude.{◌≡◌, ◌++◌, ◌≤◌, length, false, IfOk, OnOk};
 ghost use Rattle.site_config.specs.Refusals.{LineRefusal};
 ghost use Rattle.site_mounts.specs.Lines.{read_text};

@@ -1,4 +1,4 @@
-//! What the lines of a text give, as one value.
+//! The lines of a text, their workers and lists, as one value.
 ghost use Rattle.std.specs.Prelude.{◌≡◌, ◌<◌, ◌^◌, [], length};
 ghost use Rattle.lb_model.specs.Ranges.{IsPeriod};
 ghost use Rattle.site_config.specs.Entries.{as_properties};

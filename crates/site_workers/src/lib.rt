@@ -1,7 +1,7 @@
 //! workers.properties: the configuration that a text gives, or its first refusal.
 //!
 //! Source: Apache Tomcat Connectors reference, "workers.properties" and "LoadBalancer HowTo".
-//! Own rules: the ranges, the numbers of the refusals and their order, how lists are spelled (docs/DECISIONS.md).
+//! Own rules: the ranges, the numbers of the refusals and their order, how lists are spelled (docs/FORMATS.md).
 //! Contract: `read_workers`, clauses `ok` and `refused`. Read first: specs/Site.antt, then specs/Given.antt,
 //! specs/Settings.antt, site_config's specs/Properties.antt.
 //! Errors: `PropsError`.

@@ -1,4 +1,4 @@
-//! What the lines give one worker.
+//! The row of a worker: the directives that the lines give it.
 ghost use Rattle.std.specs.Prelude.{◌≡◌, slice_index_or, slice_set, length, None};
 ghost use Rattle.std.specs.Option.{option_map};
 ghost use Rattle.site_config.specs.Directives.{slot_of};

@@ -1,4 +1,4 @@
-//! What a text says of the site as a whole.
+//! A directive of the whole site: `worker.maintain`.
 ghost use Rattle.std.specs.Prelude.{◌≡◌, ◌≤◌};
 ghost use Rattle.std.specs.Option.{option_map};
 ghost use Rattle.site_config.specs.Entries.{as_property, as_properties};

@@ -1,4 +1,4 @@
-//! What a status worker's request asks for.
+//! The work that a status worker's request asks for, or why it gets no page.
 ghost use Rattle.std.specs.Prelude.{◌≡◌, ◌<◌, ◌&&◌, None, Some, length, IfOk, IfErr, IfSome};
 ghost use Rattle.status_worker.specs.Effects.{is_change};
 ghost use Rattle.status_worker.specs.Meaning.{meaning_of};

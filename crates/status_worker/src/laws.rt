@@ -1,4 +1,4 @@
-//! What the definitions mean, as functions without a body whose contracts are laws.
+//! Laws of the definitions of queries and pages, as functions without a body.
 ghost use Rattle.std.specs.Prelude.{◌≡◌, ℕ, ◌+◌, ◌<◌, true, false, List, [], ◌∷◌, ◌++◌, length, None, Some, All, codes, count_by, sum_by};
 ghost use Rattle.std.specs.List.{join_with_byte, list_all};
 ghost use Rattle.percent_encoding.specs.declared.ascii_set.AsciiSet.{AsciiSet};

@@ -1,4 +1,4 @@
-//! What the values of an update mean.
+//! The values of an update.
 ghost use Rattle.std.specs.Prelude.{◌≡◌};
 ghost use Rattle.status_worker.specs.Values.{activation_of, short_number, redirect_to, redirect_of, given, has_change, changed_by, change_of};
 

@@ -1,4 +1,4 @@
-//! What the rows of each file are about.
+//! The area of the balancer's values: the subject of each file of rows.
 
 use crate::{indexes, journals, openings, values, verdicts};
 use anyhow::Result;

@@ -6,7 +6,7 @@
 //! One free worker leads: it waits for the system's word on all links at once, puts what is ready into a queue and passes
 //! the lead on. All others take from the queue. The link of a client that was quick is told whether others are
 //! free, and then waits for 10 milliseconds at most before it says that it waits.
-//! Own rules: the limits of clients, and how a link lingers (docs/DECISIONS.md, "Clients that wait").
+//! Source: own rules: the limits of clients, and how a link lingers (docs/DECISIONS.md, "Clients that wait").
 //! Contract: `Places`, which loses no client and gives each again with what it had read ahead; `Stay::is_over`, which says when
 //! one has waited too long; `TcpLink::waits`, clause `brief`, for the 10 milliseconds. Read first: specs/Stays.antt, then src/places.rt.
 //! Errors: `IoError`; want of memory alone needs no cause.

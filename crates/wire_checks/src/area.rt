@@ -1,4 +1,4 @@
-//! What the rows of each file are about.
+//! The area of the wire: the subject of each file of rows.
 
 use crate::vectors::{judge_replies, judge_requests};
 use crate::{links, messages, packets, requests};

@@ -1,4 +1,4 @@
-//! What the rows of each file are about.
+//! The area of HTTP: the subject of each file of rows.
 
 use crate::{bodies, heads, laws, replies, routes};
 use anyhow::Result;
