@@ -114,7 +114,7 @@ static SCRIPT_PAGES: [Page; 3] = [
         about: "Play a script of a balancer, read from the input",
         usage: "jkd play < SCRIPT",
         rows: &[HELP],
-        after: "Each select prints its ticket and the member that it goes to; nothing is forwarded.\n\nExample: jkd play < script.txt\n\nStatus: 0 done; 1 a bad line, which is printed; 3 the input is too long; 4 it can't be read; 5 the output can't be written; 6 out of memory",
+        after: "Each select prints its ticket and the member that it goes to; nothing is forwarded.\n\nExample: jkd play < script.txt\n\nStatus: 0 done; 3 a bad line, which is printed, or too long; 4 it can't be read; 5 the output can't be written; 6 out of memory",
     },
     Page {
         name: "dry",
