@@ -1,9 +1,9 @@
 -- What is added, part after part.
-use Rattle.std.proofs.Common.{◌≡◌, ℕ, List, [], ◌++◌, Option, Result, Ok, Err, IsErrAnd, OnOk, OnErr, refl, sym, ap, ◌∙◌, subst, inr}
-use Rattle.jk_io.specs.Told.{appended, PutsFront}
+use Rattle.std.proofs.Common.{◌≡◌, ℕ, List, [], ◌++◌, Option, Result, Ok, Err, IsErrAnd, IsOk, OnOk, OnErr, refl, sym, ap, ◌∙◌, subst, inr}
+use Rattle.jk_io.specs.Told.{HasCause, appended, PutsFront}
 use Rattle.jk_io.specs.declared.failures.IoError.{IoError}
 use Rattle.jk_io.proofs.ToldLaws.{appended-appended}
-use Rattle.remarks.specs.Added.{AddsSaid, AddsText, IsFront}
+use Rattle.remarks.specs.Added.{Adds, AddsFor, AddsSaid, AddsSome, AddsText, IsFront, RemarkOutState}
 
 -- nothing was added
 pub front_none : (old : Option (List ℕ)) (text : List ℕ) → IsFront (appended old text) old
@@ -24,6 +24,14 @@ adds_then (Err e) old mid new a b before more =
 pub adds_same : {T : Type 0} (r : Result T IoError) (old new : Option (List ℕ)) (a b : List ℕ) → AddsText r old new a → a ≡ b → AddsText r old new b
 adds_same r old new a b adds same = subst (λ (text : List ℕ). AddsText r old new text) same adds
 
+pub adds_as : {T : Type 0} (r : Result T IoError) (old new : RemarkOutState) (a b : List ℕ) → Adds r old new a → a ≡ b → Adds r old new b
+adds_as r old new a b adds same = record { added = adds_same r old.said new.said a b adds.added same; cause = adds.cause; steady = adds.steady }
+
+-- what is added for a value of which it is known
+pub adds_at : {A T : Type 0} (r : Result T IoError) (old new : RemarkOutState) (known : A → Type 0) (text : A → List ℕ) (a : A) → AddsFor r old new known text → known a
+    → Adds r old new (text a)
+adds_at r old new known text a adds is = record { added = adds.added a is; cause = adds.cause; steady = adds.steady }
+
 -- what a piece holds that was cleared before the text came into it
 pub buffered : (cleared said piece text : List ℕ) → cleared ≡ [] → said ≡ cleared ++ text → piece ≡ said → piece ≡ text
 buffered cleared said piece text none more same = same ∙ more ∙ ap (λ (b : List ℕ). b ++ text) none
@@ -32,6 +40,25 @@ buffered cleared said piece text none more same = same ∙ more ∙ ap (λ (b : 
 pub adds_said : {T : Type 0} (r : Result T IoError) (old new : Option (List ℕ)) (text : List ℕ) (so : List ℕ → Type 0) → AddsText r old new text → so text → AddsSaid r old new so
 adds_said (Ok x) old new text so adds is = (text, is, adds)
 adds_said (Err e) old new text so adds is = inr (text, is, adds)
+
+pub adds_some : {T : Type 0} (r : Result T IoError) (old new : RemarkOutState) (text : List ℕ) (so : List ℕ → Type 0) → Adds r old new text → so text → AddsSome r old new so
+adds_some r old new text so adds is = record { added = adds_said r old.said new.said text so adds.added is; cause = adds.cause; steady = adds.steady }
+
+-- a call after one that left the count of faults as it was
+pub cause_after : {T : Type 0} (r : Result T IoError) (old mid new : ℕ) → mid ≡ old → HasCause mid new r → HasCause old new r
+cause_after r old mid new same cause = subst (λ (n : ℕ). HasCause n new r) same cause
+
+pub steady_after : {T : Type 0} (r : Result T IoError) (old mid new : ℕ) → mid ≡ old → (IsOk r → new ≡ mid) → IsOk r → new ≡ old
+steady_after r old mid new same steady is = steady is ∙ same
+
+-- two calls, one after the other
+pub adds_after : {S T : Type 0} (x : S) (r : Result T IoError) (old mid new : RemarkOutState) (a b : List ℕ) → Adds {T = S} (Ok x) old mid a → Adds r mid new b
+    → Adds r old new (a ++ b)
+adds_after x r old mid new a b first second = record {
+  added = adds_then r old.said mid.said new.said a b first.added second.added;
+  cause = cause_after r old.faults mid.faults new.faults (first.steady refl) second.cause;
+  steady = steady_after r old.faults mid.faults new.faults (first.steady refl) second.steady;
+}
 
 -- a front of the piece was written
 front_put : (old new : Option (List ℕ)) (piece : List ℕ) → PutsFront old new piece → IsFront (appended old piece) new

@@ -14,7 +14,7 @@ use Rattle.remarks.specs.Told.{AreBothSaid, SaysBoth, map_among, text_of}
 
 -- an accepted map's rules are told, and of a refused one nothing
 pub effects_are : (workers map : List ℕ × List ℕ) (c : Config) (ps : List Property) (r : Result (List Rule) LineRefusal) → IsConfig workers.1 c
-    → properties.read_text true workers.1 ≡ Ok ps → read_text c map.1 ≡ r → AreEffects workers map (effects_over c ps workers map r)
+    → properties.read_text true workers.1 ≡ Ok ps → read_text c map.1 ≡ r → AreEffects workers map (effects_over c workers map r ps)
 effects_are workers map c ps (Ok rules) is read rule =
     let told = λ (r : Result (List Rule) LineRefusal). workers_remarks true workers.0 c ps ++ rules_remarks true c map r in
     inl ((c, is, subst (λ (r : Result (List Rule) LineRefusal). IsOk r) (sym rule) refl), inr (c, is, ps, read, ap told (sym rule)))

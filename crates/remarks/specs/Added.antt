@@ -1,6 +1,6 @@
 -- What is added to what was said, also where a write fails. Where it is untold each equation here says nothing.
-use Rattle.std.specs.Prelude.{◌≡◌, ℕ, List, ◌⊎◌, Option, Result, Ok, Err}
-use Rattle.jk_io.specs.Told.{appended}
+use Rattle.std.specs.Prelude.{◌≡◌, ℕ, List, ◌⊎◌, Option, Result, Ok, Err, IsOk}
+use Rattle.jk_io.specs.Told.{HasCause, appended}
 use Rattle.jk_io.specs.declared.failures.IoError.{IoError}
 
 -- what contracts see of a `RemarkOut`: what its sink took and after it what is held, and how often its sink's calls failed
@@ -21,3 +21,21 @@ AddsText (Err e) old new text = IsFront (appended old text) new
 abbrev pub AddsSaid : {T : Type 0} → Result T IoError → (old new : Option (List ℕ)) → (List ℕ → Type 0) → Type 0
 AddsSaid (Ok x) old new so = (said : List ℕ) × so said × (new ≡ appended old said)
 AddsSaid (Err e) old new so = (new ≡ old) ⊎ ((said : List ℕ) × so said × IsFront (appended old said) new)
+
+-- A call added this text, or after an error a front of it; it failed only where the count of faults rose.
+pub record Adds {T : Type 0} (result : Result T IoError) (old new : RemarkOutState) (text : List ℕ) : Type 0 where
+  pub added : AddsText result old.said new.said text
+  pub cause : HasCause old.faults new.faults result
+  pub steady : IsOk result → new.faults ≡ old.faults
+
+-- the same of a text of which this holds
+pub record AddsSome {T : Type 0} (result : Result T IoError) (old new : RemarkOutState) (so : List ℕ → Type 0) : Type 0 where
+  pub added : AddsSaid result old.said new.said so
+  pub cause : HasCause old.faults new.faults result
+  pub steady : IsOk result → new.faults ≡ old.faults
+
+-- the same of the text that is made of each value of which this is known
+pub record AddsFor {A T : Type 0} (result : Result T IoError) (old new : RemarkOutState) (known : A → Type 0) (text : A → List ℕ) : Type 0 where
+  pub added : (a : A) → known a → AddsText result old.said new.said (text a)
+  pub cause : HasCause old.faults new.faults result
+  pub steady : IsOk result → new.faults ≡ old.faults

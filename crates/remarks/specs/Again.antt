@@ -10,13 +10,17 @@ use Rattle.site_config.specs.declared.directive.Directive.{Directive}
 use Rattle.site_config.specs.declared.directive.Directive.TheVariants as directive
 use Rattle.site_config.specs.declared.property.Property.{Property}
 use Rattle.site_config.specs.Directives.{directive_of, maintain_key, worker_part}
-use Rattle.site_config.specs.Properties.{said}
+use Rattle.site_config.specs.Properties.{read_text, said}
 use Rattle.site_workers.specs.Given.{last_of}
 use denote.Ref.{Bor}
 
 -- what a line of this number says, if something, where it isn't refused
 abbrev pub Says : ℕ → (line : List ℕ) → Option Property → Type 0
 Says number line says = said true number (trimmed line) ≡ Ok says
+
+-- the lines of a workers.properties say this
+abbrev pub Reads : (text : List ℕ) → List Property → Type 0
+Reads text ps = read_text true text ≡ Ok ps
 
 -- a directive that is built, other than the lists of members, which are joined
 abbrev pub is_single_directive : Option Directive → Bool

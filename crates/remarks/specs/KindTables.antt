@@ -26,3 +26,11 @@ AreKindTables tables k = IsKindTable tables.kinds.now k.kinds × IsKindTable tab
 abbrev pub ForTables : LineTables → (SiteKinds → List Property → Type 0) → Type 0
 ForTables tables so =
     (kinds : SiteKinds) → (ps : List Property) → AreKindTables tables kinds → IsLineTable tables.lines.now ps → so kinds ps
+
+-- what the tables of lines stand for: the types of the workers, and what the lines say
+pub record SiteLines : Type 0 where
+  pub kinds : SiteKinds
+  pub lines : List Property
+
+abbrev pub AreTables : LineTables → SiteLines → Type 0
+AreTables tables s = AreKindTables tables s.kinds × IsLineTable tables.lines.now s.lines

@@ -69,9 +69,9 @@ AreEffects workers map out =
     (AreAccepted workers map × AreRemarks true workers (Some map) out) ⊎ (IsOneRefused workers map × (out ≡ []))
 
 -- of a workers.properties that gives this configuration, and a map: the same, by what the map reads as
-abbrev pub effects_over : Config → List Property → (workers map : List ℕ × List ℕ) → Result (List Rule) LineRefusal → List ℕ
-effects_over c ps workers map (Err r) = []
-effects_over c ps workers map (Ok rules) = workers_remarks true workers.0 c ps ++ rules_remarks true c map (Ok rules)
+abbrev pub effects_over : Config → (workers map : List ℕ × List ℕ) → Result (List Rule) LineRefusal → List Property → List ℕ
+effects_over c workers map (Err r) ps = []
+effects_over c workers map (Ok rules) ps = workers_remarks true workers.0 c ps ++ rules_remarks true c map (Ok rules)
 
 -- a file's name and text
 abbrev pub as_file : SiteFile → List ℕ × List ℕ

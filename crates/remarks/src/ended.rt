@@ -1,7 +1,7 @@
 //! Remarks on a command that ended, by its status.
 ghost use Rattle.std.specs.Prelude.{◌≡◌, ◌≢◌, [], IfOk, IsOk, None, Some, true};
 ghost use Rattle.jk_io.specs.Told.{HasCause};
-ghost use Rattle.remarks.specs.Added.{AddsSaid, AddsText};
+ghost use Rattle.remarks.specs.Added.{Adds, AddsSaid, AddsSome, AddsText};
 ghost use Rattle.remarks.specs.Told.{IsLine, SaysEffects, SaysRefused, fault_of, fault_text, too_long_text, unread_name, unread_text};
 
 use crate::input_seen::InputSeen;
@@ -44,9 +44,7 @@ fn put_long<O: Sink + Drop>(
     out: &mut RemarkOut<O>,
     name: &[u8],
 ) -> Result<(), IoError>
-    ensures added { AddsText result out.old.said out.new.said (too_long_text name.now) }
-    ensures cause { HasCause out.old.faults out.new.faults result }
-    ensures steady { IsOk result → out.new.faults ≡ out.old.faults }
+    ensures { Adds result out.old out.new (too_long_text name.now) }
 {
     let said = too_long(alloc, name)?;
     out.put(said.as_slice())
@@ -60,9 +58,7 @@ fn put_refusal<O: Sink + Drop>(
     reads: &[ReadFile],
     input: InputSeen,
 ) -> Result<(), IoError>
-    ensures added { AddsSaid result out.old.said out.new.said (SaysRefused command reads.now input) }
-    ensures cause { HasCause out.old.faults out.new.faults result }
-    ensures steady { IsOk result → out.new.faults ≡ out.old.faults }
+    ensures { AddsSome result out.old out.new (SaysRefused command reads.now input) }
 {
     if let Some(name) = long_file(reads) {
         return put_long(alloc, out, name);
@@ -134,9 +130,7 @@ fn put_fault<O: Sink + Drop>(
     out: &mut RemarkOut<O>,
     ended: &Ended<'_>,
 ) -> Result<(), IoError>
-    ensures added { AddsText result out.old.said out.new.said (fault_of ended.now) }
-    ensures cause { HasCause out.old.faults out.new.faults result }
-    ensures steady { IsOk result → out.new.faults ≡ out.old.faults }
+    ensures { Adds result out.old out.new (fault_of ended.now) }
 {
     let said = fault_of(alloc, ended)?;
     out.put(said.as_slice())
@@ -148,9 +142,7 @@ fn put_words<O: Sink + Drop>(
     out: &mut RemarkOut<O>,
     words: &[Bytes],
 ) -> Result<(), IoError>
-    ensures added { AddsSaid result out.old.said out.new.said IsLine }
-    ensures cause { HasCause out.old.faults out.new.faults result }
-    ensures steady { IsOk result → out.new.faults ≡ out.old.faults }
+    ensures { AddsSome result out.old out.new IsLine }
 {
     let said = said_of_words(alloc, words)?;
     out.put(said.as_slice())

@@ -1,8 +1,6 @@
 //! Remarks on a map that is accepted: the parts without effect, and a map without a rule.
-ghost use Rattle.std.specs.Prelude.{◌≡◌, ℕ, List, IfOk, IsOk};
-ghost use Rattle.jk_io.specs.Told.{HasCause};
-ghost use Rattle.site_config.specs.declared.values.WorkerKind.{WorkerKind};
-ghost use Rattle.remarks.specs.Added.{AddsText};
+ghost use Rattle.std.specs.Prelude.{◌≡◌, IfOk};
+ghost use Rattle.remarks.specs.Added.{Adds, AddsFor};
 ghost use Rattle.remarks.specs.KindTables.{IsKindTable};
 ghost use Rattle.remarks.specs.MapNotices.{empty_words};
 ghost use Rattle.remarks.specs.Remarks.{IsShort, as_file, effect_words};
@@ -34,9 +32,7 @@ fn put_empty<O: Sink + Drop>(
     map: &SiteFile<'_>,
     rules: &UriMap,
 ) -> Result<(), IoError>
-    ensures added { AddsText result out.old.said out.new.said (empty_words map.now.name.now rules.now) }
-    ensures cause { HasCause out.old.faults out.new.faults result }
-    ensures steady { IsOk result → out.new.faults ≡ out.old.faults }
+    ensures { Adds result out.old out.new (empty_words map.now.name.now rules.now) }
 {
     let said = empty_words(alloc, map.name, rules)?;
     out.put(said.as_slice())
@@ -51,10 +47,7 @@ pub(crate) fn put_map_effects<O: Sink + Drop>(
     rules: &UriMap,
 ) -> Result<(), IoError>
     requires { IsShort map.now }
-    ensures added { (kinds : List (List ℕ × WorkerKind)) → IsKindTable table.now kinds → AddsText result out.old.said out.new.said
-        (effect_words (as_file map.now) kinds rules.now) }
-    ensures cause { HasCause out.old.faults out.new.faults result }
-    ensures steady { IsOk result → out.new.faults ≡ out.old.faults }
+    ensures { AddsFor result out.old out.new (IsKindTable table.now) (λ kinds. effect_words (as_file map.now) kinds rules.now) }
 {
     put_map_notices(alloc, out, table, map)?;
     put_empty(alloc, out, map, rules)

@@ -1,13 +1,12 @@
 //! Notices of a map's parts that have no effect.
-ghost use Rattle.std.specs.Prelude.{◌≡◌, ◌++◌, ◌≤◌, ℕ, List, length, IsOk, OnOk};
+ghost use Rattle.std.specs.Prelude.{◌≡◌, ◌++◌, ◌≤◌, ℕ, List, length, OnOk};
 ghost use Rattle.jk_io.specs.Decimals.{trimmed};
-ghost use Rattle.jk_io.specs.Told.{HasCause};
 ghost use Rattle.jk_io.specs.declared.whole_input.TheConstants.{MAX_INPUT_BYTES};
 ghost use Rattle.std.specs.List.{flat_map, list_all};
 ghost use Rattle.std.specs.Option.{option_map};
 ghost use Rattle.site_config.specs.declared.values.WorkerKind.{WorkerKind};
 ghost use Rattle.site_config.specs.Cut.{cut_at, is_separator};
-ghost use Rattle.remarks.specs.Added.{AddsText};
+ghost use Rattle.remarks.specs.Added.{AddsFor};
 ghost use Rattle.remarks.specs.KindTables.{IsKindTable};
 ghost use Rattle.remarks.specs.MapNotices.{behind_notices, is_list_name, is_part_name, lists_nobody, line_notices, map_notices, part_notice, parts_notices, side_notices};
 ghost use Rattle.site_config.specs.Properties.{is_silent};
@@ -222,10 +221,8 @@ fn put_line_notices<O: Sink + Drop>(
     at: FileLine<'_>,
     line: &[u8],
 ) -> Result<(), IoError>
-    ensures added { (kinds : List (List ℕ × WorkerKind)) → IsKindTable table.now kinds → AddsText result out.old.said out.new.said
-        (line_notices at.entry.file.now at.entry.line kinds (trimmed line.now)) }
-    ensures cause { HasCause out.old.faults out.new.faults result }
-    ensures steady { IsOk result → out.new.faults ≡ out.old.faults }
+    ensures { AddsFor result out.old out.new (IsKindTable table.now)
+        (λ kinds. line_notices at.entry.file.now at.entry.line kinds (trimmed line.now)) }
 {
     buffer.clear();
     put_line(buffer, table, at, trim(line))?;
@@ -240,10 +237,8 @@ pub(crate) fn put_map_notices<O: Sink + Drop>(
     map: &SiteFile<'_>,
 ) -> Result<(), IoError>
     requires { length map.now.text.now ≤ MAX_INPUT_BYTES }
-    ensures added { (kinds : List (List ℕ × WorkerKind)) → IsKindTable table.now kinds
-        → AddsText result out.old.said out.new.said (map_notices map.now.name.now kinds map.now.text.now) }
-    ensures cause { HasCause out.old.faults out.new.faults result }
-    ensures steady { IsOk result → out.new.faults ≡ out.old.faults }
+    ensures { AddsFor result out.old out.new (IsKindTable table.now)
+        (λ kinds. map_notices map.now.name.now kinds map.now.text.now) }
 {
     let mut buffer = Bytes::new(alloc);
     let mut line: u32 = 0;

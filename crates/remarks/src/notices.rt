@@ -1,15 +1,13 @@
 //! Notices of lines that a site of mod_jk would expect to have effect, and that have none.
-ghost use Rattle.std.specs.Prelude.{◌≡◌, ◌≤◌, ◌++◌, ℕ, List, Ok, Option, length, true, IsOk, OnOk};
+ghost use Rattle.std.specs.Prelude.{◌≡◌, ◌≤◌, ◌++◌, ℕ, List, Option, length, OnOk};
 ghost use Rattle.std.specs.Option.{option_map};
 ghost use Rattle.site_config.specs.declared.values.WorkerKind.{WorkerKind};
 ghost use Rattle.site_config.specs.declared.property.Property.{Property};
-ghost use Rattle.jk_io.specs.Told.{HasCause};
 ghost use Rattle.jk_io.specs.declared.whole_input.TheConstants.{MAX_INPUT_BYTES};
 ghost use Rattle.site_config.specs.Entries.{as_property};
-ghost use Rattle.site_config.specs.Properties.{read_text};
-ghost use Rattle.remarks.specs.Added.{AddsText};
-ghost use Rattle.remarks.specs.Again.{Says};
-ghost use Rattle.remarks.specs.KindTables.{AreKindTables, ForTables, IsKindTable};
+ghost use Rattle.remarks.specs.Added.{AddsFor};
+ghost use Rattle.remarks.specs.Again.{Reads, Says};
+ghost use Rattle.remarks.specs.KindTables.{AreKindTables, AreTables, ForTables, IsKindTable, SiteLines};
 ghost use Rattle.remarks.specs.Notices.{
   SiteKinds,
   again_words,
@@ -299,10 +297,7 @@ fn put_notice<O: Sink + Drop>(
     file: &[u8],
     entry: &PropertyLine<'_>,
 ) -> Result<(), IoError>
-    ensures added { ForTables tables.now (λ kinds ps.
-        AddsText result out.old.said out.new.said (notice file.now kinds ps (as_property entry.now))) }
-    ensures cause { HasCause out.old.faults out.new.faults result }
-    ensures steady { IsOk result → out.new.faults ≡ out.old.faults }
+    ensures { AddsFor result out.old out.new (AreTables tables.now) (λ s. notice file.now s.kinds s.lines (as_property entry.now)) }
 {
     let at = FileLine {
         file,
@@ -322,10 +317,8 @@ fn put_line_notice<O: Sink + Drop>(
     number: u32,
     line: &[u8],
 ) -> Result<(), IoError>
-    ensures added { ForTables tables.now (λ kinds ps. (says : Option Property) → Says number line.now says
-        → AddsText result out.old.said out.new.said (notices_by file.now kinds ps says)) }
-    ensures cause { HasCause out.old.faults out.new.faults result }
-    ensures steady { IsOk result → out.new.faults ≡ out.old.faults }
+    ensures { AddsFor result out.old out.new (λ (s : SiteLines × Option Property). AreTables tables.now s.0 × Says number line.now s.1)
+        (λ s. notices_by file.now s.0.kinds s.0.lines s.1) }
 {
     match said_at(number, line)? {
         None => Ok(()),
@@ -343,10 +336,8 @@ pub(crate) fn put_notices<O: Sink + Drop>(
     workers: &SiteFile<'_>,
 ) -> Result<(), IoError>
     requires { length workers.now.text.now ≤ MAX_INPUT_BYTES }
-    ensures added { ForTables tables.now (λ kinds ps. read_text true workers.now.text.now ≡ Ok ps
-        → AddsText result out.old.said out.new.said (notices workers.now.name.now kinds ps)) }
-    ensures cause { HasCause out.old.faults out.new.faults result }
-    ensures steady { IsOk result → out.new.faults ≡ out.old.faults }
+    ensures { AddsFor result out.old out.new (λ (s : SiteLines). AreTables tables.now s × Reads workers.now.text.now s.lines)
+        (λ s. notices workers.now.name.now s.kinds s.lines) }
 {
     let mut buffer = Bytes::new(alloc);
     let mut number: u32 = 0;

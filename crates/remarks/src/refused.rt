@@ -1,9 +1,8 @@
 //! The lines of a file that are refused, each by itself.
-ghost use Rattle.std.specs.Prelude.{◌≡◌, ◌≤◌, ◌||◌, ◌++◌, length, IfOk, IsOk};
+ghost use Rattle.std.specs.Prelude.{◌≡◌, ◌≤◌, ◌||◌, ◌++◌, length, IfOk};
 ghost use Rattle.std.specs.Option.{is_some, option_map};
-ghost use Rattle.jk_io.specs.Told.{HasCause};
 ghost use Rattle.jk_io.specs.declared.whole_input.TheConstants.{MAX_INPUT_BYTES};
-ghost use Rattle.remarks.specs.Added.{AddsText};
+ghost use Rattle.remarks.specs.Added.{Adds};
 ghost use Rattle.remarks.specs.Explained.{said_of};
 ghost use Rattle.remarks.specs.Refused.{is_refused_by_line, refused_lines, told_if, wrong_by, wrong_line, wrong_rule};
 
@@ -71,10 +70,7 @@ fn put_told<O: Sink + Drop>(
     line: &[u8],
     words: &[u8],
 ) -> Result<(), IoError>
-    ensures added { AddsText result out.old.said out.new.said
-        (said_of at.entry.file.now at.entry.line (words.now ++ line.now)) }
-    ensures cause { HasCause out.old.faults out.new.faults result }
-    ensures steady { IsOk result → out.new.faults ≡ out.old.faults }
+    ensures { Adds result out.old out.new (said_of at.entry.file.now at.entry.line (words.now ++ line.now)) }
 {
     buffer.clear();
     put_said(buffer, at, words, line)?;
@@ -89,10 +85,8 @@ fn put_wrong<O: Sink + Drop>(
     line: &[u8],
     words: Option<&[u8]>,
 ) -> Result<(), IoError>
-    ensures added { AddsText result out.old.said out.new.said
+    ensures { Adds result out.old out.new
         (told_if at.entry.file.now at.entry.line line.now (option_map (λ t. t.now) words.entry)) }
-    ensures cause { HasCause out.old.faults out.new.faults result }
-    ensures steady { IsOk result → out.new.faults ≡ out.old.faults }
 {
     match words {
         None => Ok(()),
@@ -116,11 +110,9 @@ pub(crate) fn put_refused<O: Sink + Drop>(
     file: &SiteFile<'_>,
 ) -> Result<bool, IoError>
     requires { length file.now.text.now ≤ MAX_INPUT_BYTES }
-    ensures added { AddsText result out.old.said out.new.said
+    ensures adds { Adds result out.old out.new
         (refused_lines (wrong_by judge.entry) file.now.name.now file.now.text.now) }
     ensures some { IfOk result (λ told. told ≡ is_refused_by_line (wrong_by judge.entry) file.now.text.now) }
-    ensures cause { HasCause out.old.faults out.new.faults result }
-    ensures steady { IsOk result → out.new.faults ≡ out.old.faults }
 {
     let mut buffer = Bytes::new(alloc);
     let mut told = false;

@@ -1,7 +1,7 @@
 //! Where remarks go.
 ghost use Rattle.std.specs.Prelude.{◌≡◌, [], IsOk, OnErr, OnOk};
 ghost use Rattle.jk_io.specs.Told.{appended, HasCause};
-ghost use Rattle.remarks.specs.Added.{AddsText, IsFront};
+ghost use Rattle.remarks.specs.Added.{Adds, AddsText, IsFront};
 
 use jk_io::{Bytes, IoError, Sink, write_all};
 use std::alloc::Global;
@@ -66,9 +66,7 @@ impl<O: Sink + Drop> RemarkOut<O> {
 
     /// Adds a piece at the end. After a write that failed the end of what was added is lost, so nothing more is to be added.
     pub fn put(&mut self, piece: &[u8]) -> Result<(), IoError>
-        ensures added { AddsText result self.old.said self.new.said piece.now }
-        ensures cause { HasCause self.old.faults self.new.faults result }
-        ensures steady { IsOk result → self.new.faults ≡ self.old.faults }
+        ensures { Adds result self.old self.new piece.now }
     {
         put_held(&mut self.sink, &mut self.held, piece)
     }

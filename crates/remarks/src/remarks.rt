@@ -1,15 +1,12 @@
 //! Remarks on a site's files: why they are refused, and what of those that are accepted has no effect.
-ghost use Rattle.std.specs.Prelude.{◌≡◌, List, Ok, true, IfSome, IsOk};
+ghost use Rattle.std.specs.Prelude.{IfSome};
 ghost use Rattle.std.specs.Option.{option_map};
-ghost use Rattle.jk_io.specs.Told.{HasCause};
-ghost use Rattle.site_config.specs.Properties as properties;
-ghost use Rattle.site_config.specs.declared.property.Property.{Property};
 ghost use Rattle.site_mounts.specs.Lines.{read_text};
-ghost use Rattle.site_config.specs.declared.config.Config.{Config};
 ghost use Rattle.remarks.specs.Explained.{explained_workers};
 ghost use Rattle.remarks.specs.KindTables.{IsKindTable};
 ghost use Rattle.remarks.specs.Notices.{kinds_of, notices, site_kinds};
-ghost use Rattle.remarks.specs.Added.{AddsSaid, AddsText};
+ghost use Rattle.remarks.specs.Added.{Adds, AddsFor, AddsSome};
+ghost use Rattle.remarks.specs.Again.{Reads};
 ghost use Rattle.remarks.specs.Refused.{refused_lines, wrong_rule};
 ghost use Rattle.remarks.specs.Remarks.{AreRemarks, AreShort, IsShort, as_file, map_remarks, maps_of, rules_remarks, site_remarks, workers_refusals, workers_remarks};
 
@@ -35,9 +32,8 @@ fn put_map_refusals<O: Sink + Drop>(
     map: &SiteFile<'_>,
 ) -> Result<(), IoError>
     requires { IsShort map.now }
-    ensures added { AddsText result out.old.said out.new.said (refused_lines (wrong_rule config.now) map.now.name.now map.now.text.now) }
-    ensures cause { HasCause out.old.faults out.new.faults result }
-    ensures steady { IsOk result → out.new.faults ≡ out.old.faults }
+    ensures { Adds result out.old out.new
+        (refused_lines (wrong_rule config.now) map.now.name.now map.now.text.now) }
 {
     let workers = Workers::new(alloc, config)?;
     put_refused(alloc, out, Judge::Map(&workers), map)?;
@@ -52,10 +48,8 @@ fn put_workers_refusal<O: Sink + Drop>(
     line: u32,
     code: u8,
 ) -> Result<(), IoError>
-    ensures added { AddsText result out.old.said out.new.said
+    ensures { Adds result out.old out.new
         (explained_workers workers.now.name.now workers.now.text.now (record { line = line; code = code })) }
-    ensures cause { HasCause out.old.faults out.new.faults result }
-    ensures steady { IsOk result → out.new.faults ≡ out.old.faults }
 {
     let mut said = Bytes::new(alloc);
     explain_workers(&mut said, workers, line, code)?;
@@ -71,10 +65,8 @@ fn put_workers_refusals<O: Sink + Drop>(
     code: u8,
 ) -> Result<(), IoError>
     requires { IsShort workers.now }
-    ensures added { AddsText result out.old.said out.new.said
+    ensures { Adds result out.old out.new
         (workers_refusals (as_file workers.now) (record { line = line; code = code })) }
-    ensures cause { HasCause out.old.faults out.new.faults result }
-    ensures steady { IsOk result → out.new.faults ≡ out.old.faults }
 {
     let told = put_refused(alloc, out, Judge::Workers, workers)?;
     if told {
@@ -95,10 +87,8 @@ fn put_map<O: Sink + Drop>(
 ) -> Result<(), IoError>
     requires short { IsShort map.now }
     requires table { IsKindTable table.now (kinds_of config.now) }
-    ensures added { AddsText result out.old.said out.new.said
+    ensures { Adds result out.old out.new
         (rules_remarks effects config.now (as_file map.now) (read_text config.now map.now.text.now)) }
-    ensures cause { HasCause out.old.faults out.new.faults result }
-    ensures steady { IsOk result → out.new.faults ≡ out.old.faults }
 {
     match read_map(alloc, map.text, config) {
         Ok(rules) => {
@@ -124,9 +114,7 @@ fn put_any_map<O: Sink + Drop>(
 ) -> Result<(), IoError>
     requires short { IfSome map IsShort }
     requires table { IsKindTable table.now (kinds_of config.now) }
-    ensures added { AddsText result out.old.said out.new.said (map_remarks effects config.now (option_map as_file map.entry)) }
-    ensures cause { HasCause out.old.faults out.new.faults result }
-    ensures steady { IsOk result → out.new.faults ≡ out.old.faults }
+    ensures { Adds result out.old out.new (map_remarks effects config.now (option_map as_file map.entry)) }
 {
     match map {
         None => Ok(()),
@@ -144,10 +132,7 @@ pub(crate) fn put_effects<O: Sink + Drop>(
 ) -> Result<(), IoError>
     requires short { IsShort workers.now }
     requires table { IsKindTable table.now (kinds_of config.now) }
-    ensures added { (ps : List Property) → properties.read_text true workers.now.text.now ≡ Ok ps
-        → AddsText result out.old.said out.new.said (notices workers.now.name.now (site_kinds config.now) ps) }
-    ensures cause { HasCause out.old.faults out.new.faults result }
-    ensures steady { IsOk result → out.new.faults ≡ out.old.faults }
+    ensures { AddsFor result out.old out.new (Reads workers.now.text.now) (notices workers.now.name.now (site_kinds config.now)) }
 {
     let redirects = redirect_table(alloc, config)?;
     let lines = line_table(alloc, workers.text)?;
@@ -170,10 +155,8 @@ fn put_workers<O: Sink + Drop>(
 ) -> Result<(), IoError>
     requires short { IsShort workers.now }
     requires table { IsKindTable table.now (kinds_of config.now) }
-    ensures added { (ps : List Property) → properties.read_text true workers.now.text.now ≡ Ok ps
-        → AddsText result out.old.said out.new.said (workers_remarks effects workers.now.name.now config.now ps) }
-    ensures cause { HasCause out.old.faults out.new.faults result }
-    ensures steady { IsOk result → out.new.faults ≡ out.old.faults }
+    ensures { AddsFor result out.old out.new (Reads workers.now.text.now)
+        (workers_remarks effects workers.now.name.now config.now) }
 {
     if effects {
         put_effects(alloc, out, config, table, workers)
@@ -191,10 +174,7 @@ fn put_accepted<O: Sink + Drop>(
     effects: bool,
 ) -> Result<(), IoError>
     requires short { AreShort files.now }
-    ensures added { (ps : List Property) → properties.read_text true files.now.workers.text.now ≡ Ok ps
-        → AddsText result out.old.said out.new.said (site_remarks effects files.now config.now ps) }
-    ensures cause { HasCause out.old.faults out.new.faults result }
-    ensures steady { IsOk result → out.new.faults ≡ out.old.faults }
+    ensures { AddsFor result out.old out.new (Reads files.now.workers.text.now) (site_remarks effects files.now config.now) }
 {
     let table = kind_table(alloc, config)?;
     put_workers(alloc, out, config, &table, &files.workers, effects)?;
@@ -211,9 +191,7 @@ pub fn site_remarks<O: Sink + Drop>(
     effects: bool,
 ) -> Result<(), IoError>
     requires short { AreShort files.now }
-    ensures added { AddsSaid result out.old.said out.new.said (AreRemarks effects (as_file files.now.workers) (maps_of files.now)) }
-    ensures cause { HasCause out.old.faults out.new.faults result }
-    ensures steady { IsOk result → out.new.faults ≡ out.old.faults }
+    ensures { AddsSome result out.old out.new (AreRemarks effects (as_file files.now.workers) (maps_of files.now)) }
 {
     match read_workers(alloc, files.workers.text) {
         Ok(config) => put_accepted(alloc, out, &config, files, effects),

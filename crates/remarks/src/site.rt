@@ -1,9 +1,8 @@
 //! Remarks on the files of a site that a command read.
-ghost use Rattle.std.specs.Prelude.{◌≡◌, IfSome, IsOk};
+ghost use Rattle.std.specs.Prelude.{◌≡◌, IfSome};
 ghost use Rattle.std.specs.Option.{option_map};
-ghost use Rattle.jk_io.specs.Told.{HasCause};
 ghost use Rattle.remarks.specs.Told.{SaysBoth, SaysEffects, SaysEffectsAt, SaysPlaced, SaysSite, map_among, site_place, text_of};
-ghost use Rattle.remarks.specs.Added.{AddsSaid};
+ghost use Rattle.remarks.specs.Added.{AddsSome};
 ghost use Rattle.remarks.specs.Remarks.{IsShort, as_file};
 
 use crate::read_file::ReadFile;
@@ -73,9 +72,7 @@ fn put_site<O: Sink + Drop>(
     reads: &[ReadFile],
     effects: bool,
 ) -> Result<(), IoError>
-    ensures added { AddsSaid result out.old.said out.new.said (SaysSite effects reads.now) }
-    ensures cause { HasCause out.old.faults out.new.faults result }
-    ensures steady { IsOk result → out.new.faults ≡ out.old.faults }
+    ensures { AddsSome result out.old out.new (SaysSite effects reads.now) }
 {
     let [first, rest @ ..] = reads else {
         return Ok(());
@@ -99,9 +96,7 @@ pub(crate) fn put_placed<O: Sink + Drop>(
     reads: &[ReadFile],
     at: Option<SitePlace>,
 ) -> Result<(), IoError>
-    ensures added { AddsSaid result out.old.said out.new.said (SaysPlaced at reads.now) }
-    ensures cause { HasCause out.old.faults out.new.faults result }
-    ensures steady { IsOk result → out.new.faults ≡ out.old.faults }
+    ensures { AddsSome result out.old out.new (SaysPlaced at reads.now) }
 {
     let Some(at) = at else {
         return Ok(());
@@ -119,9 +114,7 @@ pub(crate) fn put_effects<O: Sink + Drop>(
     command: Option<CommandName>,
     reads: &[ReadFile],
 ) -> Result<(), IoError>
-    ensures added { AddsSaid result out.old.said out.new.said (SaysEffects command reads.now) }
-    ensures cause { HasCause out.old.faults out.new.faults result }
-    ensures steady { IsOk result → out.new.faults ≡ out.old.faults }
+    ensures { AddsSome result out.old out.new (SaysEffects command reads.now) }
 {
     match site_place(command) {
         None => Ok(()),
@@ -142,9 +135,7 @@ pub fn effects_on<O: Sink + Drop>(
     out: &mut RemarkOut<O>,
     reads: &[ReadFile],
 ) -> Result<(), IoError>
-    ensures added { AddsSaid result out.old.said out.new.said (SaysBoth reads.now) }
-    ensures cause { HasCause out.old.faults out.new.faults result }
-    ensures steady { IsOk result → out.new.faults ≡ out.old.faults }
+    ensures { AddsSome result out.old out.new (SaysBoth reads.now) }
 {
     let [first, rest @ ..] = reads else {
         return Ok(());

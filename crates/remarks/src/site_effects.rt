@@ -1,11 +1,9 @@
 //! What in a site's two files has no effect, where both are accepted.
-ghost use Rattle.std.specs.Prelude.{◌≡◌, ◌++◌, List, Ok, true, IsOk};
-ghost use Rattle.jk_io.specs.Told.{HasCause};
-ghost use Rattle.site_config.specs.Properties as properties;
-ghost use Rattle.site_config.specs.declared.property.Property.{Property};
+ghost use Rattle.std.specs.Prelude.{Ok};
 ghost use Rattle.site_mounts.specs.Lines.{read_text};
-ghost use Rattle.remarks.specs.Added.{AddsSaid, AddsText};
-ghost use Rattle.remarks.specs.Remarks.{AreEffects, IsShort, as_file, effects_over, rules_remarks, workers_remarks};
+ghost use Rattle.remarks.specs.Added.{AddsFor, AddsSome};
+ghost use Rattle.remarks.specs.Again.{Reads};
+ghost use Rattle.remarks.specs.Remarks.{AreEffects, IsShort, as_file, effects_over};
 
 use crate::kinds::kind_table;
 use crate::map_effects::put_map_effects;
@@ -29,10 +27,8 @@ fn put_both<O: Sink + Drop>(
 ) -> Result<(), IoError>
     requires workers { IsShort workers.now }
     requires map { IsShort map.now }
-    ensures added { (ps : List Property) → properties.read_text true workers.now.text.now ≡ Ok ps
-        → AddsText result out.old.said out.new.said (effects_over config.now ps (as_file workers.now) (as_file map.now) (Ok rules.now)) }
-    ensures cause { HasCause out.old.faults out.new.faults result }
-    ensures steady { IsOk result → out.new.faults ≡ out.old.faults }
+    ensures { AddsFor result out.old out.new (Reads workers.now.text.now)
+        (effects_over config.now (as_file workers.now) (as_file map.now) (Ok rules.now)) }
 {
     let table = kind_table(alloc, config)?;
     put_effects(alloc, out, config, &table, workers)?;
@@ -49,11 +45,8 @@ fn put_over<O: Sink + Drop>(
 ) -> Result<(), IoError>
     requires workers { IsShort workers.now }
     requires map { IsShort map.now }
-    ensures added { (ps : List Property) → properties.read_text true workers.now.text.now ≡ Ok ps
-        → AddsText result out.old.said out.new.said
-        (effects_over config.now ps (as_file workers.now) (as_file map.now) (read_text config.now map.now.text.now)) }
-    ensures cause { HasCause out.old.faults out.new.faults result }
-    ensures steady { IsOk result → out.new.faults ≡ out.old.faults }
+    ensures { AddsFor result out.old out.new (Reads workers.now.text.now)
+        (effects_over config.now (as_file workers.now) (as_file map.now) (read_text config.now map.now.text.now)) }
 {
     match read_map(alloc, map.text, config) {
         Ok(rules) => put_both(alloc, out, config, &rules, workers, map),
@@ -71,9 +64,7 @@ pub(crate) fn site_effects<O: Sink + Drop>(
 ) -> Result<(), IoError>
     requires workers { IsShort workers.now }
     requires map { IsShort map.now }
-    ensures added { AddsSaid result out.old.said out.new.said (AreEffects (as_file workers.now) (as_file map.now)) }
-    ensures cause { HasCause out.old.faults out.new.faults result }
-    ensures steady { IsOk result → out.new.faults ≡ out.old.faults }
+    ensures { AddsSome result out.old out.new (AreEffects (as_file workers.now) (as_file map.now)) }
 {
     match read_workers(alloc, workers.text) {
         Ok(config) => put_over(alloc, out, &config, workers, map),

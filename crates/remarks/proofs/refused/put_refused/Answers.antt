@@ -1,5 +1,5 @@
 use Rattle.std.specs.Option.{is_some}
-use Rattle.std.proofs.Common.{◌≡◌, ◌+◌, ◌++◌, ◌∙◌, ◌||◌, List, Option, ℕ, false, ap, refl, sym, subst, arith}
+use Rattle.std.proofs.Common.{◌≡◌, ◌+◌, ◌++◌, ◌∙◌, ◌||◌, List, Option, ℕ, false, ap, refl, rules, sym, subst, arith}
 use Rattle.jk_io.specs.Told.{appended}
 use Rattle.jk_io.proofs.ToldLaws.{appended-appended, appended-nil}
 use Rattle.site_config.specs.Lines.{lines}
@@ -38,22 +38,29 @@ loop-line-preserved g c =
           ∙ appended-appended c.loop-line.out.said one rest ∙ known;
     }
 
-pub returns-clause-added : goal.returns-clause-added
-returns-clause-added g c =
+pub returns-clause-adds : goal.returns-clause-adds
+returns-clause-adds g c =
     let none = none_refused (wrong_by c.args.judge) c.args.file.now.name.now (c.loop-line.number + 1) c.loop-line.rest.now c.in_default.ensures.none in
-    sym (appended-nil c.loop-line.out.said) ∙ (rw none at c.loop-line.invariant.said)
+    record {
+      added = sym (appended-nil c.loop-line.out.said) ∙ (rw none at c.loop-line.invariant.said);
+      cause = search rules;
+      steady = λ ok. c.loop-line.invariant.steady;
+    }
 
 pub returns-clause-some : goal.returns-clause-some
 returns-clause-some g c =
     let none = none_wrong (wrong_by c.args.judge) (c.loop-line.number + 1) c.loop-line.rest.now c.in_default.ensures.none in
     sym (or_false c.loop-line.told) ∙ (rw none at c.loop-line.invariant.told)
 
-pub returns-in_err-words-clause-added : goal.returns-in_err-words-clause-added
-returns-in_err-words-clause-added g c =
-    failed c.from_residual.result _ _ _ _ c.from_residual.ensures.1 (_, sym c.loop-line.invariant.said)
+pub returns-in_err-words-clause-adds : goal.returns-in_err-words-clause-adds
+returns-in_err-words-clause-adds g c = record {
+  added = failed c.from_residual.result _ _ _ _ c.from_residual.ensures.1 (_, sym c.loop-line.invariant.said);
+  cause = search rules;
+  steady = search rules;
+}
 
-pub returns-in_err-put_wrong-clause-added : goal.returns-in_err-put_wrong-clause-added
-returns-in_err-put_wrong-clause-added g c =
+pub returns-in_err-put_wrong-clause-adds : goal.returns-in_err-put_wrong-clause-adds
+returns-in_err-put_wrong-clause-adds g c =
     let wrong = wrong_by c.args.judge in
     let file = c.args.file.now.name.now in
     let n = c.loop-line.number + 1 in
@@ -62,7 +69,11 @@ returns-in_err-put_wrong-clause-added g c =
     let rest = refused_from wrong file (n + 1) (lines c.in-Some.behind.now) in
     let known : appended c.loop-line.out.said (one ++ rest) ≡ appended c.args.out.now.said (refused_lines wrong file c.args.file.now.text.now) =
     rw c.in-Some.ensures.some at c.loop-line.invariant.said in
-    failed c.from_residual-in_err-put_wrong.result _ _ _ _ c.from_residual-in_err-put_wrong.ensures.1
-    (subst (λ (t : Option (List ℕ)). IsFront t c.put_wrong.new.out.said) known
-    (front_more c.loop-line.out.said c.put_wrong.new.out.said one rest
-    (subst (λ (t : List ℕ). IsFront (appended c.loop-line.out.said t) c.put_wrong.new.out.said) (ap (told_if file n line) c.in_ok-words.ensures) c.in_err-put_wrong.ensures.added)))
+    record {
+      added = failed c.from_residual-in_err-put_wrong.result _ _ _ _ c.from_residual-in_err-put_wrong.ensures.1
+          (subst (λ (t : Option (List ℕ)). IsFront t c.put_wrong.new.out.said) known
+          (front_more c.loop-line.out.said c.put_wrong.new.out.said one rest
+          (subst (λ (t : List ℕ). IsFront (appended c.loop-line.out.said t) c.put_wrong.new.out.said) (ap (told_if file n line) c.in_ok-words.ensures) c.in_err-put_wrong.ensures.added)));
+      cause = search rules;
+      steady = search rules;
+    }
