@@ -1,4 +1,4 @@
--- What is looked for in a request, from a place on.
+-- Searches in a request, one place at a time: found where the item stands, else gone on after it.
 use Rattle.std.proofs.Common.{◌≡◌, ℕ, ◌+◌, ◌<◌, true, false, List, length, drop, get_or, Some, refl, ◌∙◌, add-one, drop-cons}
 use Rattle.std.specs.Prelude.{◌||◌, nat_eq, if◌then◌else◌}
 use Rattle.std.specs.List.{starts_with}

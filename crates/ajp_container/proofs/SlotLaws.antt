@@ -1,4 +1,4 @@
--- What was done in each slot, said of the doors and the ends.
+-- Slots of a run, each served at its own door: the same, told of the lists of doors and ends.
 use Rattle.std.proofs.Common.{ℕ, suc, ◌≡◌, ◌<◌, List, [], ◌∷◌, ◌++◌, length, map, take, sym, subst, arith}
 use Rattle.std.specs.Prelude.{slice_index_or}
 use Rattle.std.proofs.Math.Seq.{take-append_seam}

@@ -1,4 +1,4 @@
--- What each application answers.
+-- The page of each application: `/who`, `/echo`, `/size/N`, `/status/N`, `/session`, and any other path.
 use Rattle.std.specs.Prelude.{ℕ, true, is_some, List, [], ◌∷◌, ◌++◌, codes, replicate, Some, None, if◌then◌else◌}
 use Rattle.ajp_request.specs.declared.forward.Forward.{Forward}
 use Rattle.ajp_container.specs.declared.app_config.AppConfig.{AppConfig}

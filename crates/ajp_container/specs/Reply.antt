@@ -1,4 +1,4 @@
--- What an answer is, in the words of one who reads it: a head, a body in pieces, and End Response.
+-- A reply in the words of one who reads it: a head, a body in pieces, and End Response.
 use Rattle.std.specs.Prelude.{◌≡◌, ◌≢◌, ℕ, ◌^◌, ◌<◌, ◌≤◌, ◌⊎◌, Bool, true, false, List, [], ◌∷◌, ◌++◌, length, map, codes, decimal, Option, Some, None}
 use Rattle.std.specs.List.{concat, AllByRecursion}
 use Rattle.ajp_reply.specs.declared.message.Message.{Message}

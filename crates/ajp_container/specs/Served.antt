@@ -1,4 +1,4 @@
--- What a container's worker did at its door, and why it ended. Read this first.
+-- The links that a container's worker served at its door, in order, and why it ended. Read this first.
 use Rattle.std.specs.Prelude.{ℕ, ◌≡◌, ◌≢◌, ◌<◌, min, List, [], ◌∷◌, length, map, slice_index_or}
 use Rattle.std.specs.List.{All}
 use Rattle.jk_io.specs.Told.{appended, IsEmpty, Rose}

@@ -1,4 +1,4 @@
--- What was read can be written again.
+-- A Forward Request that was read can be written again.
 use Rattle.std.proofs.Common.{◌≡◌, ℕ, ◌<◌, ◌≤◌, List, [], ◌∷◌, ◌++◌, length, sym, ◌⊎◌, inl, inr, subst}
 use Rattle.std.specs.List.{AllByRecursion}
 use Rattle.ajp_request.specs.declared.attribute.Attribute.{Attribute}

@@ -1,4 +1,4 @@
--- What is written for a Forward Request, of the spellings that it has.
+-- The one spelling in which a Forward Request is written: codes for all names that have one, and no string left out.
 use Rattle.std.specs.Prelude.{◌≡◌, ℕ, ◌<◌, ◌≤◌, Bool, IsTrue, List, [], ◌∷◌, ◌++◌, length, take, drop, Option, Some, None, is_some}
 use Rattle.std.specs.List.{AllByRecursion, flat_map, position_or_len}
 use Rattle.ajp_wire.specs.Spelling.{int, string}

@@ -1,4 +1,4 @@
--- What a send leaves, and what an ask comes to where the body can't be taken further.
+-- A send, whole or in part, and an ask whose piece was sent or whose body can't be taken further.
 use Rattle.std.proofs.Common.{◌≡◌, ℕ, ◌+◌, ◌-◌, ◌≤◌, Bool, true, false, List, [], ◌++◌, length, take, drop, refl, sym, ap, subst, ◌∙◌, arith, length-take, take_all, Option, Some, None, IfSome, Result, Ok, Err, IsOk, OnOk, inl, inr}
 use Rattle.std.specs.Prelude.{IsTrue, if◌then◌else◌}
 use Rattle.ajp_wire.specs.Packet.{body_packet}

@@ -1,4 +1,4 @@
--- What is read of a reply after the client is gone.
+-- The rest of a reply that is read and dropped once the client is gone.
 use Rattle.std.specs.Prelude.{◌≡◌, ◌≢◌, ℕ, ◌+◌, ◌<◌, ◌⊎◌, Bool, true, List, [], ◌∷◌, ◌++◌, length, Option, Some, None, Result, Ok, Err, false}
 use Rattle.jk_io.specs.declared.failures.NoMemory.{NoMemory}
 use Rattle.ajp_wire.specs.Packet.{HasCome}

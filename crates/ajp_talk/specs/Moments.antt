@@ -1,4 +1,4 @@
--- What is known of a talk at one moment: its link, its client and the request's body. An untold meaning is None.
+-- One moment of a talk: its link, its client and the request's body. An untold meaning is None.
 use Rattle.std.specs.Prelude.{ℕ, ◌≡◌, ◌+◌, ◌⊎◌, List, ◌++◌, length, Option, None}
 use Rattle.jk_io.specs.Moments.{Moment}
 use Rattle.jk_io.specs.declared.traits.streams.Meanings.{Ghosts}

@@ -1,4 +1,4 @@
--- What a talk owes its link: the bytes that it may send, by what came and by the data after the first piece.
+-- The bytes that a talk may send on its link, by what came and by the data after the first piece.
 use Rattle.std.specs.Prelude.{◌≡◌, ℕ, ◌+◌, ◌<◌, ◌==◌, min, true, false, List, [], ◌∷◌, ◌++◌, length, take, drop, if◌then◌else◌}
 use Rattle.ajp_wire.specs.Packet.{packet, body_packet}
 use Rattle.ajp_reply.specs.declared.message.Message.{Message}

@@ -1,4 +1,4 @@
--- What the messages of a container say of a reply, the newest first: its head, its chunks, and whether their sum agrees.
+-- The messages of a reply, the newest first: its head, its chunks, and whether their sum agrees.
 use Rattle.std.specs.Prelude.{◌≡◌, ℕ, ◌+◌, ◌==◌, Bool, true, false, ◌&&◌, nat_le, nat_lt, List, [], ◌∷◌, length, Option, Some, None, IfSome, if◌then◌else◌}
 use Rattle.std.specs.List.{list_all, list_any}
 use Rattle.std.specs.Option.{option_map}

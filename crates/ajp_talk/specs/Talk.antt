@@ -1,4 +1,4 @@
--- What a talk is: how it ended, by the bytes that came and went. Read this first.
+-- A talk, and how it ended, by the bytes that came and went. Read this first.
 use Rattle.std.specs.Prelude.{◌≡◌, ℕ, ◌+◌, ◌<◌, ◌≤◌, ◌↔◌, ◌⊎◌, Bool, true, false, nat_le, nat_lt, List, [], ◌∷◌, ◌++◌, length, take, Option, Some, None, IfSome, IsSome, is_some, Result, Ok, Err}
 use Rattle.jk_io.specs.Told.{appended, PutsFront, Rose, IsEmpty}
 use Rattle.jk_io.specs.declared.failures.NoMemory.{NoMemory}

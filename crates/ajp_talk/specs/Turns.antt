@@ -1,4 +1,4 @@
--- What one message makes of a talk: the step from one moment to the next.
+-- One message more in a talk: the step from one moment to the next.
 use Rattle.std.specs.Prelude.{◌≡◌, ℕ, ◌+◌, ◌<◌, ◌≤◌, ◌⊎◌, Bool, true, false, not, List, [], length, take, None, IfSome, IsTrue, Result, Ok, Err, if◌then◌else◌}
 use Rattle.jk_io.specs.Told.{appended, PutsFront, Rose, IsEmpty}
 use Rattle.jk_io.specs.declared.failures.IoError.{IoError}

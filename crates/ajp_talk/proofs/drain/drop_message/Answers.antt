@@ -1,4 +1,4 @@
--- What a turn of the reply came to.
+-- A turn of a reply that is dropped: a chunk, or End Response.
 use Rattle.ajp_talk.proofs.drain.drop_message.Goals as goal
 
 pub returns-in-Chunk-clause-dropped : goal.returns-in-Chunk-clause-dropped

@@ -1,4 +1,4 @@
--- What came of a read is a message, or why there is none.
+-- A read gives a message, or why there is none.
 use Rattle.std.proofs.Common.{refl, ap, Err}
 use Rattle.ajp_wire.specs.Moments.{link_at}
 use Rattle.ajp_wire.specs.Packet.{read_into}

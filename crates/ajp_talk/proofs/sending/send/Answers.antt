@@ -1,4 +1,4 @@
--- What was counted of the bytes was sent.
+-- The bytes that were counted are those that were sent.
 use Rattle.ajp_talk.proofs.SendingLaws.{sent-from}
 use Rattle.ajp_talk.proofs.sending.send.Goals as goal
 

@@ -1,4 +1,4 @@
--- What each message makes of the talk, or that none came.
+-- A step of the talk for each message, and for a read that gave none.
 use Rattle.std.proofs.Common.{refl, ap, ◌∙◌, inl, inr}
 use Rattle.http_front.specs.Unread.{unread}
 use Rattle.ajp_wire.specs.Moments.{link_at}
