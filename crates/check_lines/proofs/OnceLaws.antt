@@ -1,4 +1,4 @@
--- What two calls of a desk come to.
+-- Two calls of one desk taken together: a choice and its return, a stray, a refusal, a page.
 use Rattle.std.specs.List.{All}
 use Rattle.std.proofs.lemmas.List.Elements.{All-head, All-tail}
 use Rattle.std.proofs.Common.{◌≡◌, ℕ, ◌+◌, ◌≤◌, true, List, [], ◌∷◌, ◌++◌, length, Option, refl, sym, ap, ◌∙◌, subst, arith, append_assoc, length-append, slice_index, false, ◌<◌}

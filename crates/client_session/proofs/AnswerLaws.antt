@@ -1,4 +1,4 @@
--- What a request is answered with by its status worker.
+-- Answers to a request: of its status worker, of an end that came before its worker, and 404 where it is mounted nowhere.
 use Rattle.std.proofs.Common.{◌≡◌, ◌<◌, ◌≤◌, ℕ, Bool, List, get_or, [], ◌∷◌, Option, IsSome, None, Some, Ok, Err, refl, sym, subst, inl, inr, ap, ◌∙◌, length, arith}
 use Rattle.std.proofs.lemmas.Option.{slice_get_read}
 use Rattle.jk_io.specs.Moments.{Moment}

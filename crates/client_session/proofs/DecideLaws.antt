@@ -1,4 +1,4 @@
--- What the client's bytes decide of a session's end.
+-- One end for the client's bytes: each head, refusal and query among them is read in one way.
 use Rattle.std.proofs.Common.{◌≡◌, ℕ, ◌⊎◌, Bool, true, false, List, [], ◌++◌, Option, Some, None, IsSome, slice_get, refl, sym, subst, inl, inr, ap, ◌∙◌, arith, append_assoc, append-nil, length-append}
 use Rattle.std.proofs.lemmas.Bool.{both_ways, false≢true}
 use Rattle.std.proofs.lemmas.List.{take-append-le}

@@ -1,4 +1,4 @@
--- What a desk keeps over an exchange, and over several requests.
+-- A desk over an exchange, and over several requests: the tickets that it holds, and the stray that it met.
 use Rattle.std.proofs.Common.{◌≡◌, ℕ, Option, subst, sym, ap, ◌∙◌, arith}
 use Rattle.lb_model.specs.declared.refusal.Stray.{Stray}
 use Rattle.lb_book.specs.Desks.{DeskState, MeetsNone, first_stray}

@@ -1,4 +1,4 @@
--- What is kept over several steps of a session.
+-- Desk, reach and client, kept over several steps of a session and over a status worker's answer.
 use Rattle.std.proofs.Common.{◌≡◌, ◌≤◌, ℕ, Result, Ok, Err, refl, ap, ◌∙◌, subst, sym, length, get_or, ◌<◌, Bool, IfErr, arith}
 use Rattle.std.specs.Prelude.{vec_capacity}
 use Rattle.jk_io.specs.declared.reaching.Beside.{Beside}

@@ -1,4 +1,4 @@
--- What a request comes to: the session goes on, or ends at it or after it.
+-- The turn of a request: the session goes on, ends at it, or ends after it.
 use Rattle.std.proofs.Common.{◌≡◌, ℕ, ◌+◌, ◌≤◌, ◌<◌, ◌==◌, ◌||◌, Bool, true, false, List, [], refl, sym, Option, None, subst, inl, inr, ap, ◌∙◌, arith}
 use Rattle.std.proofs.lemmas.Bool.{eq-eqb, true≢false}
 use Rattle.jk_io.specs.Moments.{Moment}

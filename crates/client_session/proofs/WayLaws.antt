@@ -1,4 +1,4 @@
--- What holds of each session that ends so.
+-- Each session with this end: its own answer has its cause, its bytes decide the end, an undisturbed reply came whole.
 use Rattle.std.proofs.Common.{◌≡◌, ℕ, List, [], Option, refl}
 use Rattle.jk_io.specs.declared.reaching.Beside.{Beside}
 use Rattle.jk_io.specs.declared.traits.streams.Meanings.{Ghosts}

@@ -1,4 +1,4 @@
--- What a request is answered with: by its balancer, by its status worker, or by the connector itself.
+-- The answer to a request: of its balancer, of its status worker, or of the connector itself; and its row.
 use Rattle.std.specs.Prelude.{ℕ, ◌≡◌, ◌≤◌, ◌⊎◌, Bool, true, false, List, [], ◌∷◌, length, Option, Some, None, IsSome, Result, Ok, Err, slice_get}
 use Rattle.jk_io.specs.Told.{Rose}
 use Rattle.lb_model.specs.declared.member.MemberConfig.{MemberConfig}

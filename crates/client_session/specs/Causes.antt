@@ -1,4 +1,4 @@
--- What the client's bytes decide of a session's end, and why an own answer was given, by its status, or a refusal.
+-- The end of a session as the client's bytes decide it, and the cause of each own answer, by its status or refusal.
 use Rattle.std.specs.Prelude.{ℕ, ◌≡◌, ◌≢◌, ◌≤◌, ◌+◌, ◌⊎◌, Bool, true, false, List, ◌++◌, length, Some, None, IfSome}
 use Rattle.jk_io.specs.Told.{Rose}
 use Rattle.lb_model.specs.declared.journal.Answer.TheVariants as answer

@@ -1,4 +1,4 @@
--- What an exchange's end, or a request that wasn't answered whole, means to its session.
+-- The session after an exchange's end, or after a request that wasn't answered whole, and the row of that request.
 use Rattle.std.specs.Prelude.{ℕ, ◌≡◌, ◌≤◌, ◌⊎◌, Bool, List, [], ◌∷◌, length, Option, Some, None, IsSome, slice_get}
 use Rattle.http_out.specs.Own.{own_of}
 use Rattle.lb_model.specs.declared.member.MemberConfig.{MemberConfig}

@@ -1,4 +1,4 @@
--- What a session's end says of the desk's strays and of the client's faults.
+-- The end of a session, by the stray that its desk met and the faults of its client.
 use Rattle.std.specs.Prelude.{ℕ, ◌≡◌}
 use Rattle.jk_io.specs.Told.{Rose}
 use Rattle.lb_book.specs.Desks.{DeskState, MeetsNone, RisesByOne, first_stray}

@@ -1,4 +1,4 @@
--- What follows an answer, the rest of its body among it, and what is done where no head was read.
+-- The steps after an answer, the rest of its body among them, and those where no head was read.
 use Rattle.std.specs.Prelude.{ℕ, ◌≡◌, ◌⊎◌, Bool, true, false, List, [], ◌∷◌, Option}
 use Rattle.jk_io.specs.Moments.{Moment}
 use Rattle.lb_model.specs.declared.served.Served.{Served}

@@ -1,4 +1,4 @@
--- What the parts of a session keep of what they are lent, and what they tell of strays and of the client's faults.
+-- Desk, reach and client as the parts of a session keep them; strays and the client's faults as answers tell them.
 use Rattle.std.specs.Prelude.{◌≡◌, ℕ, ◌≤◌, Bool, List, Result, Ok, Err}
 use Rattle.jk_io.specs.declared.reaching.Beside.{Beside}
 use Rattle.jk_io.specs.declared.traits.streams.Meanings.{Ghosts}

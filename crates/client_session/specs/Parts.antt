@@ -1,4 +1,4 @@
--- What a session's client has: the parts of its requests, joined in order.
+-- The bytes that a session's client has: the parts of its requests, joined in order.
 use Rattle.std.specs.Prelude.{ℕ, zero, suc, ◌≡◌, ◌≢◌, ◌+◌, ◌⊎◌, Bool, true, false, List, [], ◌∷◌, ◌++◌, Option, Some, slice_get}
 use Rattle.jk_io.specs.Told.{appended, prepended}
 use Rattle.jk_io.specs.declared.reaching.Talk.{Talk}

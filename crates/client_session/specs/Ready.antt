@@ -1,4 +1,4 @@
--- What a session needs of its desk and its reach.
+-- A desk and a reach that are ready for a session: of its site's sizes, and with no running talk.
 use Rattle.std.specs.Prelude.{◌≡◌, true, false, IfSome}
 use Rattle.jk_io.specs.declared.reaching.Beside.{Beside}
 use Rattle.lb_book.specs.Desks.{DeskState}

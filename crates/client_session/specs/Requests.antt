@@ -1,4 +1,4 @@
--- What a session is of, and what each of its requests is.
+-- The visit that a session is of, and each of its requests: its worker, its new body, whether it is the last.
 use Rattle.std.specs.Prelude.{ℕ, ◌+◌, ◌==◌, ◌&&◌, ◌||◌, ◌≡◌, Bool, true, false, not, List, [], Option, None, codes, if◌then◌else◌}
 use Rattle.jk_io.specs.declared.traits.surroundings.Peer.{Peer}
 use Rattle.http_front.specs.declared.head.BodyPlan.{BodyPlan}

@@ -1,4 +1,4 @@
--- What is known of a session between two of its steps, and the steps that its client alone takes part in.
+-- A session between two of its steps, and the steps that its client alone takes part in.
 use Rattle.std.specs.Prelude.{◌≡◌, ◌≤◌, ℕ, List, Option}
 use Rattle.jk_io.specs.Moments.{Moment, moment}
 use Rattle.jk_io.specs.Told.{appended, PutsFront}

@@ -1,4 +1,4 @@
--- What a request comes to, as a step of a session.
+-- The turn of a request, as a step of its session, with the rows that it added.
 use Rattle.std.specs.Prelude.{ℕ, ◌≡◌, ◌+◌, List, None}
 use Rattle.lb_book.specs.Desks.{DeskState, MeetsNone}
 use Rattle.lb_model.specs.declared.served.Served.{Served}

@@ -1,4 +1,4 @@
--- What the steps of a begin say, told of a whole begin.
+-- A whole begin, put together from its steps.
 use Rattle.std.proofs.Common.{◌≡◌, ℕ, Bool, true, false, List, [], ◌∷◌, Some, None, Result, Ok, Err, refl, sym, ap, ◌∙◌, subst, arith}
 use Rattle.std.specs.Prelude.{Option, IfSome, IsSomeAnd, IfOk, IfErr, OnOk, OnErr, IsOk, IsErrOf, is_some, is_ok}
 use Rattle.std.proofs.lemmas.Bool.{true≢false}

@@ -1,4 +1,4 @@
--- What a begin over a link that was dialled comes to.
+-- A begin over a link that was dialled: refused, without memory for its note, or a talk over the new link.
 use Rattle.std.proofs.Common.{◌≡◌, ℕ, Bool, true, false, List, [], ◌∷◌, Some, None, Result, Ok, Err, IsErrAnd, refl, sym, ap, ◌∙◌, subst}
 use Rattle.std.specs.Prelude.{Option, IfSome, IsSomeAnd, IfOk, IfErr, OnOk, OnErr, IsOk, IsErrOf, is_some}
 use Rattle.jk_io.specs.Told.{appended, IsEmpty, HasCause}

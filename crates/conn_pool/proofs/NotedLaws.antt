@@ -1,4 +1,4 @@
--- What a noted read and a noted write of the running talk's link come to.
+-- A noted read and a noted write of the running talk's link: its tape, its faults and the link afterwards.
 use Rattle.std.proofs.Common.{◌≡◌, ℕ, ◌<◌, ◌≤◌, true, List, take, length, Result, Ok, Err, IsErrAnd, refl, sym, ◌∙◌, subst, arith}
 use Rattle.std.specs.Prelude.{Option, IfOk, OnOk, OnErr, IsOk, IsErrOf}
 use Rattle.jk_io.specs.Told.{appended, HasCause}

@@ -1,4 +1,4 @@
--- What is found at a place of a list, and a member of a table within the row of its balancer.
+-- The item at a place of a list, and a member of a table within the row of its balancer.
 use Rattle.std.proofs.Common.{◌≡◌, ℕ, zero, suc, ◌<◌, List, [], ◌∷◌, Some, length, map, get_or, subst, sym, ap, arith}
 use Rattle.std.specs.Prelude.{IfSome, slice_get}
 

@@ -1,4 +1,4 @@
--- What contracts see of a link that a reach handed to a pool.
+-- The link that a reach handed to a pool, as contracts see it: whose it is, its looks, and its home.
 use Rattle.std.specs.Prelude.{Option}
 use Rattle.std.specs.Option.{option_map}
 use Rattle.jk_io.specs.Moments.{Moment}

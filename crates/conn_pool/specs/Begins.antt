@@ -1,4 +1,4 @@
--- What a begin leaves of a tape and of the link of its talk.
+-- The tape and the link of a talk after its begin.
 use Rattle.std.specs.Prelude.{◌≡◌, ℕ, List, [], ◌∷◌, Option, Result, IfErr, IfSome, IsSomeAnd, true, false}
 use Rattle.jk_io.specs.Told.{appended, IsEmpty}
 use Rattle.jk_io.specs.declared.failures.IoError.{IoError}

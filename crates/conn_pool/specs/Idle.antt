@@ -1,4 +1,4 @@
--- What contracts see of a pool, and of a table of pools.
+-- A pool as contracts see it, with its idle links and its size; and a table of pools, by balancer and member.
 use Rattle.std.specs.Prelude.{ℕ, ◌<◌, List, length, map, slice_index}
 
 -- the idle links, in the order of their puts, and how many there may be

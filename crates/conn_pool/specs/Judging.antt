@@ -1,4 +1,4 @@
--- What a look at idle links makes of each, in turn: some are closed, and the others are kept in their order. Read first.
+-- The fate of each idle link at a look, in turn: some are closed, and the others are kept in their order. Read first.
 use Rattle.std.specs.Prelude.{ℕ, ◌≡◌, ◌+◌, ◌<◌, Bool, true, false, List, [], ◌∷◌, Option, Some, None, IsSome, count_by}
 use Rattle.std.specs.List.{flat_map}
 use Rattle.jk_io.specs.Moments.{Moment, moment}

@@ -1,4 +1,4 @@
--- What contracts see of a pooled reach and of the link of its running talk, and what a read and a write make of them.
+-- A pooled reach and the link of its running talk as contracts see them, and both after a read and after a write.
 use Rattle.std.specs.Prelude.{◌≡◌, ℕ, List, take, Option, None, IsSome, IfSome, Bool, true, false, Result, IsOk, IfOk, OnOk, OnErr, IsErrOf, is_some}
 use Rattle.jk_io.specs.Told.{appended, prepended, IsEmpty, HasCause}
 use Rattle.jk_io.specs.Moments.{Moment}

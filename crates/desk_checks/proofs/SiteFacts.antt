@@ -1,4 +1,4 @@
--- What a Site of one Book keeps.
+-- A Site of one Book: it stays of one, and a fact of that Book is one of each.
 use Rattle.std.proofs.Common.{◌≡◌, ℕ, zero, suc, List, [], ◌∷◌, length, ap, ◌∙◌, subst}
 use Rattle.std.proofs.lemmas.List.{length-set}
 use Rattle.lb_model.specs.declared.journal.Call.{Call}

@@ -1,4 +1,4 @@
--- What the steps say, told of the reach as it was and as it is.
+-- The steps of a begin, told of the reach as it was and as it is.
 use Rattle.std.proofs.Common.{◌≡◌, false, None, Ok, Err, ap, subst}
 use Rattle.std.proofs.lemmas.Result.{err_from_is_err_and, on_err_weaker}
 use Rattle.jk_io.specs.declared.failures.IoError.TheVariants as Io
