@@ -1,4 +1,4 @@
--- What is answered to a command, over what a Book keeps.
+-- A command refused, or found doable, over the values that a Book keeps.
 use Rattle.std.proofs.Common.{◌≡◌, ℕ, ◌+◌, ◌<◌, ◌≤◌, ◌^◌, List, length, reverse, Option, Ok, Err, sym, ◌∙◌, subst, arith}
 use Rattle.std.specs.Prelude.{Result}
 use Rattle.std.specs.Result.{IsErr, IsErrAnd}

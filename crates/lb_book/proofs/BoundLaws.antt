@@ -1,4 +1,4 @@
--- What a view shows of a sound Book is within the bounds.
+-- The view of a sound Book is within its bounds, and its entries chose well.
 use Rattle.std.proofs.Common.{◌≡◌, ℕ, ◌<◌, ◌≤◌, List, [], ◌∷◌, ◌++◌, length, Some, sym, ◌∙◌, subst, arith}
 use Rattle.std.specs.Prelude.{slice_get}
 use Rattle.std.proofs.lemmas.Option.{slice_get_within}

@@ -1,4 +1,4 @@
--- What is chosen among the rows is what the history before the ask says.
+-- The choice among the rows is that of the history before the ask.
 use Rattle.std.proofs.Common.{◌≡◌, ℕ, zero, suc, ◌<◌, Bool, List, length, Option, Some, None, get_or, refl, sym, ◌∙◌, ap, subst, inl, inr, arith}
 use Rattle.std.specs.Prelude.{nat_lt, IfSome}
 use Rattle.std.proofs.lemmas.Bool.{cases_Bool, ltb-true}

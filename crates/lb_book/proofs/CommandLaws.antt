@@ -1,4 +1,4 @@
--- What a Book keeps of the present, after a command, and when a command may be done.
+-- The kept present of a Book after a command, and the commands that may be done.
 use Rattle.std.proofs.Common.{◌≡◌, ℕ, suc, zero, ◌+◌, ◌*◌, ◌/◌, ◌%◌, ◌^◌, ◌<◌, ◌≤◌, false, List, [], ◌∷◌, ◌++◌, length, reverse, get_or, take, Option, Some, None, refl, sym, ◌∙◌, ap, subst, inl, inr, arith, add-one}
 use Rattle.std.specs.Prelude.{◌==◌, All, IfSome, is_some, unwrap_or, if◌then◌else◌}
 use Rattle.std.specs.Int.{◌∣◌}

@@ -1,4 +1,4 @@
--- What a Book keeps, over its calls.
+-- The kept values of a Book over its calls: the entries that may come next, and the values after each.
 use Rattle.std.proofs.Common.{◌≡◌, ℕ, ◌+◌, ◌*◌, ◌^◌, ◌<◌, ◌≤◌, Bool, true, ◌&&◌, cond, inl, inr, List, [], ◌∷◌, ◌++◌, length, reverse, Option, None, get_or, refl, sym, ◌∙◌, ap, subst, arith}
 use Rattle.std.specs.Prelude.{IfSome, ◌==◌}
 use Rattle.std.specs.List.{list_any}

@@ -1,4 +1,4 @@
--- What the answer of lcm_of means among common multiples.
+-- The answer of lcm_of among common multiples: the least of them, or none below 2^32.
 use Rattle.std.proofs.Common.{◌≡◌, ◌≤◌, ◌<◌, ◌^◌, ℕ, List, All, Option, Some, None, arith, refl, subst, sym}
 use Rattle.std.specs.Int.{◌∣◌}
 use Rattle.std.specs.Option.{IfSome, IsNone, SomeIff}

@@ -1,4 +1,4 @@
--- What a Book keeps at its opening, and what it shows.
+-- The kept present of a Book at its opening, and the rows that its view shows.
 use Rattle.std.proofs.Common.{◌≡◌, ℕ, ◌+◌, ◌*◌, ◌/◌, ◌%◌, ◌^◌, ◌<◌, ◌≤◌, true, List, [], length, replicate, Option, Some, None, get_or, refl, sym, ◌∙◌, ap, subst, inl, inr, arith}
 use Rattle.std.specs.Prelude.{IfSome, All, slice_get, nat_lt, not, ◌==◌}
 use Rattle.std.proofs.lemmas.Bool.{and_parts, ltb-true}

@@ -1,4 +1,4 @@
--- What a desk of one thread tells of a call, by what its lists tell and what it counts.
+-- A call of a desk of one thread, told by its lists and its counts: chosen, denied, commanded or refused.
 use Rattle.std.proofs.Common.{◌≡◌, ℕ, List, ◌++◌, length, take, Result, Ok, Err, refl, sym, subst}
 use Rattle.std.specs.Prelude.{IfOk, IfErr, OnOk, OnErr}
 use Rattle.std.proofs.Math.Seq.{take-append_seam}

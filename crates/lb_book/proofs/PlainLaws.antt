@@ -1,4 +1,4 @@
--- What a hold of one Book makes of a desk of one thread.
+-- A hold of one Book by a desk of one thread: its Books, receipts and tickets afterwards.
 use Rattle.std.proofs.Common.{◌≡◌, ℕ, zero, suc, ◌+◌, ◌<◌, ◌≤◌, ◌⊎◌, true, false, not, List, [], ◌∷◌, ◌++◌, length, Some, refl, sym, ap, ◌∙◌, subst, inl, inr, arith}
 use Rattle.std.specs.Prelude.{◌==◌, filter, slice_get, slice_set, slice_index}
 use Rattle.std.specs.List.{All}

@@ -1,4 +1,4 @@
--- What is answered for want of numbers, and where a maintenance is due, over what a Book keeps.
+-- Refusals for want of numbers, and a maintenance that is due, over the values that a Book keeps.
 use Rattle.std.proofs.Common.{◌≡◌, ℕ, ◌+◌, ◌<◌, ◌≤◌, ◌^◌, List, [], ◌∷◌, ◌++◌, length, reverse, Option, Ok, Err, OnErr, refl, sym, ◌∙◌, ap, subst, arith}
 use Rattle.std.specs.Prelude.{Result, max}
 use Rattle.std.specs.Result.{IsErr, IsErrAnd}

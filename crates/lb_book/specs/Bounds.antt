@@ -1,4 +1,4 @@
--- What holds of every Book beside its definition: bounds of pools and trials, and which members its entries chose.
+-- Facts of every Book beside its definition: bounds of pools and trials, and the members that its entries chose.
 use Rattle.std.specs.Prelude.{◌≡◌, ℕ, ◌≤◌, ◌==◌, ◌&&◌, Bool, true, List, ◌∷◌, ◌++◌, Some, slice_get}
 use Rattle.std.specs.List.{list_any}
 use Rattle.lb_model.specs.Laws.{MayBeChosen}

@@ -1,4 +1,4 @@
--- What a command makes of the rows, and when it may be done.
+-- The rows after a command, and the answer to one: each refusal after those before it.
 use Rattle.std.specs.Prelude.{◌≡◌, ℕ, ◌*◌, ◌/◌, ◌+◌, ◌^◌, ◌<◌, ◌≤◌, ◌==◌, List, length, slice_index_or, Result, Ok, Err, if◌then◌else◌}
 use Rattle.lb_model.specs.Journal.{each, members}
 use Rattle.lb_model.specs.Legal.{HasValues, IsDoable, TargetExists, subject_of}

@@ -1,4 +1,4 @@
--- What is told of a desk, and what its calls do with it.
+-- A desk: its receipts, its tickets, its counts and its Books, and the same after each of its calls.
 use Rattle.std.specs.Prelude.{◌≡◌, ℕ, ◌+◌, ◌<◌, ◌≤◌, ◌==◌, ◌&&◌, ◌↔◌, ◌⊎◌, Bool, false, true, not, min, List, [], ◌∷◌, ◌++◌, length, Option, Some, None, slice_get, slice_index, slice_set, if◌then◌else◌}
 use Rattle.std.specs.List.{All, list_any}
 use Rattle.lb_model.specs.Free.{is_in}

@@ -1,4 +1,4 @@
--- What contracts see of a Book, and what its calls do with it.
+-- A Book as contracts see it: its rules, opening and entries, and the state after each call.
 use Rattle.std.specs.Prelude.{◌≡◌, ℕ, ◌+◌, ◌<◌, ◌≤◌, max, List, [], ◌∷◌, ◌++◌, length, map, reverse, None, Result, Ok, Err}
 use Rattle.lb_model.specs.Journal.{next_of, moment_of}
 use Rattle.lb_model.specs.Limits.{modern_rules, most_numbers}

@@ -1,4 +1,4 @@
--- What a Book keeps beside its journal: the balancer as the journal leaves it, and where each ticket came back.
+-- The balancer as a Book's journal leaves it, which the Book keeps beside, and where each ticket came back.
 use Rattle.std.specs.Prelude.{◌≡◌, ℕ, ◌+◌, ◌*◌, ◌^◌, ◌<◌, ◌≤◌, List, length, reverse, Option, IfSome, slice_index_or}
 use Rattle.lb_model.specs.Journal.{members, next_of, moment_of, maintained_of, last_chosen}
 use Rattle.lb_model.specs.Settings.{activation_of, distance_of, factor_of, redirect_of, pool_of, unit_of}

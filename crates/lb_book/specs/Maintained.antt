@@ -1,4 +1,4 @@
--- What a maintenance makes of the rows.
+-- The rows after a maintenance: each load halved, or the greatest where an error is over; by Busyness what runs.
 use Rattle.std.specs.Prelude.{ℕ, ◌-◌, ◌/◌, List, length, slice_index_or, if◌then◌else◌}
 use Rattle.lb_model.specs.Loads.{greatest, halved, load_by}
 use Rattle.lb_model.specs.StateRows.{is_over, maintained_state}

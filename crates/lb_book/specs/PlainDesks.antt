@@ -1,4 +1,4 @@
--- What a desk of one thread keeps, and what one hold of a Book adds to it.
+-- A desk of one thread: its Books, its receipts and its tickets, and the entries that one hold of a Book adds.
 use Rattle.std.specs.Prelude.{◌≡◌, ℕ, ◌+◌, ◌<◌, ◌≤◌, ◌↔◌, ◌⊎◌, false, true, List, [], ◌∷◌, ◌++◌, length, Some, None, slice_get, Result, Ok, Err}
 use Rattle.std.specs.List.{All}
 use Rattle.lb_model.specs.Free.{is_in}

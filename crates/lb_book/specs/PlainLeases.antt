@@ -1,4 +1,4 @@
--- What a desk of one thread makes of a Book's answer.
+-- The lease and the choice that a desk of one thread makes of a Book's answer.
 use Rattle.std.specs.Prelude.{◌≡◌, ℕ, List, [], ◌∷◌}
 use Rattle.lb_model.specs.declared.journal.Answer.{Answer}
 use Rattle.lb_model.specs.declared.journal.Answer.TheVariants as answer

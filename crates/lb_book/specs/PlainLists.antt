@@ -1,4 +1,4 @@
--- What the lists that a desk of one thread keeps tell of its calls, whatever the desk counted.
+-- The lists of a desk of one thread, and its calls as the lists tell them, whatever the desk counted.
 use Rattle.std.specs.Prelude.{◌≡◌, ℕ, List}
 use Rattle.lb_model.specs.declared.ask.Ask.{Ask}
 use Rattle.lb_model.specs.declared.change.Command.{Command}

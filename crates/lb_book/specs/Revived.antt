@@ -1,4 +1,4 @@
--- What a Select makes of all rows.
+-- The rows after a Select: the chosen member's, the revived ones, and the others as they were.
 use Rattle.std.specs.Prelude.{◌≡◌, ℕ, ◌+◌, ◌<◌, ◌≤◌, Bool, List, length, slice_index_or, if◌then◌else◌}
 use Rattle.lb_model.specs.Journal.{chose}
 use Rattle.lb_model.specs.declared.ask.Ask.{Ask}

@@ -1,4 +1,4 @@
--- What an entry makes of the row of a member that it touches.
+-- The row of a chosen member, of a revived one, and of one whose ticket came back.
 use Rattle.std.specs.Prelude.{ℕ, ◌+◌, ◌-◌, ◌*◌, Bool}
 use Rattle.lb_model.specs.declared.member.Method.{Method}
 use Rattle.lb_model.specs.declared.journal.Outcome.{Outcome}
