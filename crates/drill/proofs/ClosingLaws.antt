@@ -1,4 +1,4 @@
--- What a closing says of a drill's Book.
+-- The one Book of a drill at its closing: a discord is found in it, and it has all entries and receipts.
 use Rattle.std.proofs.Common.{◌≡◌, ℕ, ◌+◌, List, [], ◌∷◌, ◌++◌, length, slice_index, Option, Some, None, Result, Ok, Err, refl, sym, ap, arith, subst, sum_by, ◌∙◌, zero-add}
 use Rattle.std.specs.List.{All}
 use Rattle.std.specs.Prelude.{IfOk, IfSome}

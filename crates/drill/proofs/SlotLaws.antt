@@ -1,4 +1,4 @@
--- What a desk leaves that forgot nothing and has one part.
+-- A desk that left: it forgot nothing, and has one part.
 use Rattle.std.proofs.Common.{◌≡◌, ℕ, ◌+◌, ◌<◌, Option, Some, Result, Ok, Err, ◌∙◌, arith}
 use Rattle.std.specs.Prelude.{IfOk}
 

@@ -1,4 +1,4 @@
--- What the application sends comes after what it had sent, and its runs one after the other.
+-- The application's bytes come after those that it had sent, and its runs one after the other.
 use Rattle.std.proofs.Common.{◌≡◌, ℕ, ◌≤◌, Bool, List, [], ◌∷◌, ◌++◌, length, Option, Some, refl, sym, ap, subst, ◌∙◌, inl, inr, length-append, arith}
 use Rattle.jk_io.specs.Moments.{Moment}
 use Rattle.jk_io.specs.Told.{appended}

@@ -1,4 +1,4 @@
--- What a drill's count of bytes is the count of: the bodies in the rows of its threads' sessions. Read this after Bodies.
+-- The count of a drill's bytes: of the bodies in the rows of its threads' sessions. Read this after Bodies.
 use Rattle.std.specs.Prelude.{◌≡◌, ◌≤◌, ℕ, List, [], length, map, Option, Some, IfSome}
 use Rattle.std.specs.List.{All, flat_map}
 use mathlib.Core.Option.{some}

@@ -1,4 +1,4 @@
--- What the journal of a drill has of its requests. Read this after Requests.
+-- The entries of a drill's requests, those of each thread in their order. Read this after Requests.
 use Rattle.std.specs.Prelude.{◌≡◌, ℕ, zero, suc, ◌<◌, ◌==◌, Bool, List, [], ◌∷◌, filter, length}
 use Rattle.lb_model.specs.declared.ask.Ask.{Ask}
 use Rattle.lb_model.specs.declared.journal.Answer.TheVariants as answer

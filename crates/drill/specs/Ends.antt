@@ -1,4 +1,4 @@
--- What a drill hands out, and why there is none.
+-- A drill that was handed out, as its summary or its journal, and why there is none.
 use Rattle.std.specs.Prelude.{◌≡◌, ℕ, Bool, true, false, List, [], ◌∷◌, length, if◌then◌else◌}
 use Rattle.lb_model.specs.Journal.{members}
 use Rattle.lb_model.specs.Limits.{modern_rules}

@@ -1,4 +1,4 @@
--- What a journal has of a thread, as far as it is read.
+-- A thread's entries in a journal as far as it is read: whole requests, and maybe a Select more.
 use Rattle.std.specs.Prelude.{◌≡◌, ℕ, List, [], ◌∷◌, ◌++◌, Option, Some, None}
 use Rattle.lb_model.specs.declared.journal.Entry.{Entry}
 use Rattle.drill.specs.Drills.{AreAnswered, Chose}

@@ -1,4 +1,4 @@
--- What a drill prints: its summary, or its journal.
+-- The text of a drill: its summary, or its journal.
 use Rattle.std.specs.Prelude.{◌≡◌, ℕ, Bool, List, [], ◌∷◌, ◌++◌, count_by, length, codes, decimal, if◌then◌else◌}
 use Rattle.lb_model.specs.Journal.{chose}
 use Rattle.lb_model.specs.declared.journal.Entry.{Entry}

@@ -1,4 +1,4 @@
--- What a thread of a drill works with.
+-- The desk of a drill's thread: one part of the ledger, no ticket held, a receipt of each entry that it added.
 use Rattle.std.specs.Prelude.{◌≡◌, ℕ, List, [], length, Some, None}
 use Rattle.lb_book.specs.Desks.{DeskState}
 

@@ -1,4 +1,4 @@
--- What a drill writes, how that ends, and the program's status. Read this after Ends.
+-- The output of a drill, how its writing ends, and the program's status. Read this after Ends.
 use Rattle.std.specs.Prelude.{◌≡◌, ℕ, ◌⊎◌, Bool, List, Option}
 use Rattle.lb_book.specs.Journal.{Journal}
 use Rattle.jk_io.specs.Told.{appended, PutsFront, Rose}

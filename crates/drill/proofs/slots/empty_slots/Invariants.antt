@@ -1,4 +1,4 @@
--- What the desks so far left, and room for what the others leave.
+-- The leavings of the desks so far, and room for those of the others.
 use Rattle.std.proofs.Common.{◌≡◌, ◌+◌, ◌≤◌, [], ◌∷◌, fold, length, map}
 use Rattle.std.specs.Prelude.{sum_by, vec_capacity, vec_len}
 use Rattle.std.specs.List.{All}

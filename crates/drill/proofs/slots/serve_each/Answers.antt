@@ -1,4 +1,4 @@
--- What each thread made stands in the list, through the slice.
+-- The result of each thread stands in the list, through the slice.
 use Rattle.std.proofs.Common.{◌∙◌, sym}
 use Rattle.drill.proofs.CountLaws.{made_lent}
 use Rattle.drill.proofs.PassLaws.{written_back}

@@ -1,4 +1,4 @@
--- What was copied is what came next of what the application sent.
+-- The copied bytes are the next ones that the application sent.
 use Rattle.std.proofs.Common.{◌≡◌, ℕ, List, ◌++◌, take, ap, ◌∙◌}
 use Rattle.jk_io.proofs.PieceLaws.{got_front}
 use Rattle.drill.specs.Wires.{AppLinkState}

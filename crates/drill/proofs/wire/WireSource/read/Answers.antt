@@ -1,4 +1,4 @@
--- What was copied is what came next.
+-- The copied bytes are the next ones of the wire.
 use Rattle.std.proofs.Common.{List, ℕ, ◌++◌, take, Some, ap, sym, ◌∙◌}
 use Rattle.jk_io.proofs.PieceLaws.{gave_front, got_front}
 use Rattle.drill.specs.Wires.{WireState}
