@@ -1,4 +1,4 @@
--- What a desk keeps over several calls, and the receipts that they add.
+-- A desk over several calls of an exchange: the state that it keeps, and the receipts that it gains.
 use Rattle.std.proofs.Common.{◌≡◌, ℕ, List, [], ◌∷◌, ◌++◌, Option, Some, None, refl, sym, ap, ◌∙◌, subst, arith}
 use Rattle.std.proofs.lemmas.List.{append_assoc, append-nil, length-append}
 use Rattle.std.proofs.lemmas.List.Elements.{All-append, All-contains, All-cons, All-head, All-nil, All-push, Contains-push}

@@ -1,4 +1,4 @@
--- What stands before the last talk of an exchange: nothing was written, and just the first piece was taken.
+-- An exchange before its last talk: nothing was written, and just the first piece was taken.
 use Rattle.std.proofs.Common.{◌≡◌, ℕ, ◌≤◌, Bool, true, List, [], ◌∷◌, ◌++◌, take, Option, Some, None, IfSome, Ok, Err, sym, ap, ◌∙◌, subst, inl, inr, arith, append-nil}
 use Rattle.jk_io.specs.Moments.{Moment}
 use Rattle.jk_io.specs.Told.{appended, Rose}

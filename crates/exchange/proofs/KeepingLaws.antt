@@ -1,4 +1,4 @@
--- What is kept over several steps of an exchange.
+-- Means and sides of an exchange, kept over several of its steps.
 use Rattle.std.proofs.Common.{◌≡◌, ℕ, ◌<◌, false, List, length, slice_index, Option, None, IfSome, refl, sym, ap, ◌∙◌, subst}
 use Rattle.jk_io.specs.declared.reaching.Beside.{Beside}
 use Rattle.jk_io.specs.declared.traits.streams.Meanings.{Ghosts}

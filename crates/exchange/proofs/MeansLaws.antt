@@ -1,4 +1,4 @@
--- What was lent came back: what is said of the struct is said of each value by itself.
+-- Means that were lent come back: a fact of the struct is one of each value by itself.
 use Rattle.std.proofs.Common.{◌≡◌, ◌≤◌, ℕ, List, Option, sym, ap, ◌∙◌, subst, arith}
 use Rattle.jk_io.specs.declared.reaching.Beside.{Beside}
 use Rattle.jk_io.specs.declared.traits.streams.Meanings.{Ghosts}

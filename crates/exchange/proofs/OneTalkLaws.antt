@@ -1,4 +1,4 @@
--- What a reach notes of a talk that was held on its link.
+-- A talk that was held on its link, as the reach notes it.
 use Rattle.std.proofs.Common.{◌≡◌, ℕ, ◌≤◌, Bool, true, List, [], ◌∷◌, Option, Some, None, IfSome, Result, ap, ◌∙◌, subst, inl}
 use Rattle.jk_io.specs.Told.{appended, IsEmpty}
 use Rattle.jk_io.specs.Talks.{IsNoteOf}

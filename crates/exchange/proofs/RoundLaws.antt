@@ -1,4 +1,4 @@
--- What a desk's answer makes of a round.
+-- A round by the desk's answer: no member, forced, full, want of memory, or a lease that is spent.
 use Rattle.std.proofs.Common.{◌≡◌, ℕ, ◌≤◌, ◌^◌, Bool, List, slice_get, Option, Some, None, refl, sym, ap, subst, inl, inr, arith}
 use Rattle.jk_io.specs.Answers.{Answers}
 use Rattle.lb_model.specs.declared.ask.Ask.{Ask}

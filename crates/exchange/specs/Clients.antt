@@ -1,4 +1,4 @@
--- What an exchange's end says of its client: what was written to it, and what was used of its bytes.
+-- The client at an exchange's end: the bytes that were written to it, and those of its own that were used.
 use Rattle.std.specs.Prelude.{◌≡◌, ℕ, ◌+◌, ◌≤◌, ◌⊎◌, Bool, true, false, List, [], ◌∷◌, ◌++◌, length, take, slice_get, Some, None, IfSome, Ok}
 use Rattle.jk_io.specs.Told.{appended, PutsFront, Rose}
 use Rattle.jk_io.specs.declared.reaching.Talk.{Talk}

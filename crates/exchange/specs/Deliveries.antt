@@ -1,4 +1,4 @@
--- What was written to a client: all of a piece, which then went out, or a front of it.
+-- A piece written to a client: all of it, which then went out, or a front of it.
 use Rattle.std.specs.Prelude.{◌≡◌, ◌≢◌, ℕ, List, [], Option, Result, Ok, Err}
 use Rattle.jk_io.specs.Moments.{Moment}
 use Rattle.jk_io.specs.Told.{appended, PutsFront, Rose}

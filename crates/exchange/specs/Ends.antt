@@ -1,4 +1,4 @@
--- What a talk's end says of the talks after it, and of how its lease goes back.
+-- The end of a talk: whether another may follow on the member, and how its lease goes back.
 use Rattle.std.specs.Prelude.{ℕ, ◌+◌, ◌==◌, ◌&&◌, not, min, Bool, true, false, List, [], ◌∷◌, if◌then◌else◌}
 use Rattle.std.specs.List.{list_any}
 use Rattle.ajp_talk.specs.declared.ending.Cause.{Cause}

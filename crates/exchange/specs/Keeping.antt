@@ -1,4 +1,4 @@
--- What the parts of an exchange ask of what they are lent, and what they keep of it.
+-- Values lent to the parts of an exchange: those with which a part may begin, and those that it keeps.
 use Rattle.std.specs.Prelude.{◌≡◌, ℕ, ◌≤◌, ◌<◌, false, List, length, slice_get, slice_index, None, Some, IfSome}
 use Rattle.http_front.specs.Places.{start_of}
 use Rattle.http_front.specs.State.{failed_of, place_of, taken_of}

@@ -1,4 +1,4 @@
--- What a container's workers did at the doors, said of the gears.
+-- The doors that a container's workers served, told of the gears: each comes back with its own rest.
 use Rattle.std.proofs.Common.{ℕ, ◌≡◌, List, [], ◌∷◌, length, map, Option, refl, sym, ap, ◌∙◌, subst, arith}
 use Rattle.std.specs.List.{AllZip}
 use Rattle.std.proofs.lemmas.List.{length-map}

@@ -1,4 +1,4 @@
--- What a run of a container's workers did with their gears.
+-- A run of a container's workers: the links of each gear's door were served, and the rest of the gear stands.
 use Rattle.std.specs.Prelude.{ℕ, ◌≡◌, List, [], ◌∷◌, map, Option}
 use Rattle.jk_io.specs.declared.reaching.Talk.{Talk}
 use Rattle.jk_io.specs.declared.traits.streams.Meanings.{Ghosts}

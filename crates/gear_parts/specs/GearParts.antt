@@ -1,4 +1,4 @@
--- What of a gear goes where while its worker runs.
+-- The parts of a gear while its worker runs: each goes to the worker, and comes back.
 use Rattle.std.specs.Prelude.{ℕ, ◌≡◌, List, [], Option, None, Some}
 use Rattle.atomic_table.specs.Seated.{TableId}
 use Rattle.jk_io.specs.declared.traits.streams.Link.{Ghosts as LinkGhosts}

@@ -1,4 +1,4 @@
--- What a gear tells at a moment. Read this first.
+-- A gear at a moment: its door, its talks, its clock, its shelf and its log. Read this first.
 use Rattle.std.specs.Prelude.{ℕ, ◌≡◌, ◌+◌, List, [], ◌∷◌, Option, Some, None}
 use Rattle.jk_io.specs.declared.reaching.Talk.{Talk}
 use Rattle.jk_io.specs.Doors.{DoorSide}

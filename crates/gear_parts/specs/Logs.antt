@@ -1,4 +1,4 @@
--- What is told of where a worker puts the rows of its requests.
+-- A log of a worker, by what is told of it: rows put, clients met, the error that broke it, and its faults.
 use Rattle.std.specs.Prelude.{◌≡◌, ◌⊎◌, ℕ, List, Option, Some}
 use Rattle.jk_io.specs.Told.{Rose}
 use Rattle.jk_io.specs.declared.failures.IoError.{IoError}

@@ -1,4 +1,4 @@
--- What the steps of taking gears and of keeping segments do.
+-- Gears taken from a world for the workers of a run, and last segments added to shelves.
 use Rattle.std.specs.Prelude.{◌≡◌, ℕ, List, [], ◌∷◌, Option}
 use Rattle.std.specs.List.{All}
 use Rattle.std.specs.Option.{option_copied}

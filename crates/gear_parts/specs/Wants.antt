@@ -1,4 +1,4 @@
--- What a gear is wanted for.
+-- The wants of a gear: its address, its clients, its directories, its limits, and how it is told to stop.
 use Rattle.std.specs.Prelude.{ℕ, ◌+◌, List, [], ◌∷◌, Option, None}
 use Rattle.std.specs.Option.{option_copied}
 use Rattle.jk_io.specs.declared.client_limits.ClientLimits.{ClientLimits}

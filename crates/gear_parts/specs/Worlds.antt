@@ -1,4 +1,4 @@
--- What a world tells at a moment, and what a command takes of it and gives back.
+-- A world at a moment, and the gears that a command takes of it and gives back.
 use Rattle.std.specs.Prelude.{◌≡◌, ℕ, Bool, ◌+◌, ◌<◌, ◌≤◌, List, [], ◌∷◌, ◌++◌, length, Option, Some, None, IfSome}
 use Rattle.jk_io.specs.Doors.{side}
 use Rattle.jk_io.specs.Told.{appended, IsEmpty}

@@ -1,4 +1,4 @@
--- What is told of the real world while a gear is made ready, and of its shelves: how often one failed, and where its segments go.
+-- The real world while it makes a gear ready, and its shelves: how often one failed, and where its segments go.
 use Rattle.std.specs.Prelude.{◌≡◌, ℕ, List, Option, Some, None, Result, IsOk}
 use Rattle.jk_io.specs.Told.{HasCause}
 use Rattle.jk_io.specs.declared.failures.IoError.{IoError}

@@ -1,4 +1,4 @@
--- What is told of the real world's doors: how many clients they take, how many links are out, how often a call failed.
+-- The real world's doors: how many clients they take, how many links are out, how often a call failed.
 use Rattle.std.specs.Prelude.{ℕ, Option}
 use Rattle.gear_worlds.specs.declared.real_door.RealDoor.{RealDoor}
 use Rattle.gear_worlds.specs.declared.real_door.RealDoor.TheVariants as door_is

@@ -1,4 +1,4 @@
--- What contracts see of a world in memory, and which gear it hands out.
+-- A world in memory as contracts see it: its gears to come, out and back, and which one it hands out.
 use Rattle.std.specs.Prelude.{◌≡◌, ◌↔◌, ℕ, List, [], ◌∷◌, Option, Some, None, Result, Contains, IsErrOf, IsOk, take}
 use Rattle.jk_io.specs.MemDoors.{MemDoorState}
 use Rattle.jk_io.specs.Memory.{MemDialState, MemLinkState, counted}

@@ -1,4 +1,4 @@
--- What stands in front of a piece that is filled, over plain values.
+-- The data in front of a piece that is filled, over plain values.
 use Rattle.std.proofs.Common.{◌≡◌, ◌≢◌, ℕ, ◌+◌, ◌≤◌, ◌<◌, true, false, List, Option, Some, length, take, inl, inr, ◌⊎◌, sym, ap, ◌∙◌, arith}
 use Rattle.std.specs.Prelude.{◌||◌, ◌==◌}
 use Rattle.std.proofs.lemmas.Bool.{eq-eqb, or_from, or_left, or_right}

@@ -1,4 +1,4 @@
--- What a call answers, of the moments before and after it.
+-- A call on a body between two moments: a piece was taken, the rest was passed, or the first fault was met.
 use Rattle.std.proofs.Common.{◌≡◌, ℕ, ◌≤◌, false, List, [], Option, Some, None, IfSome, length, refl, sym, ap, subst, ◌∙◌, arith}
 use Rattle.jk_io.specs.Told.{Rose}
 use Rattle.jk_io.proofs.ToldLaws.{prepended-nil}

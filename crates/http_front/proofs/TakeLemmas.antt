@@ -1,4 +1,4 @@
--- What a walk says of the data that is told.
+-- A walk over the data that is told: the piece is its next bytes, and the rest is left.
 use Rattle.std.proofs.Common.{◌≡◌, ℕ, ◌+◌, ◌≤◌, ◌<◌, ◌||◌, ◌==◌, Bool, true, false, List, [], ◌∷◌, ◌++◌, Option, Some, None, IfSome, IsTrue, length, take, drop, refl, sym, ap, subst, ◌∙◌, inl, inr, arith, append-nil, length-append, length-take, take_at, drop_at, take_all}
 use Rattle.std.proofs.lemmas.Bool.{cond-true, or_left, or_right, or_cases, or_parts, or_from, and_parts, le-leb, lt-leb, leb-true, eqb-true}
 use Rattle.std.proofs.lemmas.List.{drop_all}

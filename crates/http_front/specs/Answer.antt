@@ -1,4 +1,4 @@
--- What reading a head answers, over the client's bytes that are not yet used.
+-- The answers of a read of a head, over the client's bytes that are not yet used.
 use Rattle.std.specs.Prelude.{ℕ, ◌≡◌, List, Option, Result, Ok, Err, ⊤}
 use Rattle.jk_io.specs.Told.{prepended, IsEmpty}
 use Rattle.http_front.specs.Request.{IsHeadOf, AreEmptyLines}

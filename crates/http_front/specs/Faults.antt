@@ -1,4 +1,4 @@
--- What a fault tells of its cause.
+-- The faults of a body, each with its cause: a read that failed, the client's bytes, or want of memory.
 use Rattle.std.specs.Prelude.{Result, Ok, Err, ⊤}
 use Rattle.http_front.specs.declared.fault.BodyFault.{BodyFault}
 use Rattle.http_front.specs.declared.fault.BodyFault.TheVariants as fault

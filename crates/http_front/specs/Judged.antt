@@ -1,4 +1,4 @@
--- What a parsed head is, or what it is refused for: the rows after the parser in their order.
+-- A parsed head judged, by the rows after the parser in their order: a head, or the first row that refuses it.
 use Rattle.std.specs.Prelude.{ℕ, Bool, List, codes, bytes_eq, Option, Some, None, Result, Ok, Err, if◌then◌else◌}
 use Rattle.http_front.specs.Fields.{HeaderLine, named, says_close, says_expect}
 use Rattle.http_front.specs.Host.{host_of}

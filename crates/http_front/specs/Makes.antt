@@ -1,4 +1,4 @@
--- What making a head answers, where the definition gives a head or a refusal.
+-- A head made of its bytes: the head or the refusal that the definition gives, unless memory is wanted.
 use Rattle.std.specs.Prelude.{ℕ, ◌≡◌, ◌≤◌, List, Result, Ok, Err, ⊤}
 use Rattle.http_front.specs.Cut.{header_lines}
 use Rattle.http_front.specs.Refusal.{status_of}

@@ -1,4 +1,4 @@
--- What a head is refused for, and what a refused read is.
+-- The status of a refused head, and the error of a refused read.
 use Rattle.std.specs.Prelude.{ℕ}
 use Rattle.http_front.specs.declared.answers.Form.{Form}
 use Rattle.http_front.specs.declared.answers.Form.TheVariants.{BadHead, TooBig, BadHost, TwoFramings, BadLength, OldChunked, BadCoding, Connect, TooLong, BadPath}

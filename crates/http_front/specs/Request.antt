@@ -1,4 +1,4 @@
--- What a client's bytes say from the end of the former request on. Read this first.
+-- The head in a client's bytes, from the end of the former request on: whole, or refused. Read this first.
 use Rattle.std.specs.Prelude.{ℕ, ◌≡◌, ◌≢◌, ◌≤◌, ◌<◌, ◌+◌, ◌==◌, ◌⊎◌, List, [], length, take, map, Result, Ok, Err}
 use Rattle.httparse.specs.Grammar.{RequestHead, ReadsRequest}
 use Rattle.httparse.specs.Spans.{name_and_value}

@@ -1,4 +1,4 @@
--- What a search for a head's end keeps while bytes are still to come.
+-- The search for a head's end: the bytes that were skipped and searched while more are still to come.
 use Rattle.std.specs.Prelude.{ℕ, ◌≡◌, ◌+◌, ◌≤◌, ◌<◌, List, ◌++◌, length, take, drop, Some, None, Result, Ok, Err, ⊤}
 use Rattle.std.specs.Option.{option_map}
 use Rattle.http_front.specs.Cut.{Cuts, blank_len, head_len}

@@ -1,4 +1,4 @@
--- What a body that is taken piece by piece is seen as.
+-- A body that is taken piece by piece: its place, the data taken, its limit, its first fault and the data left.
 use Rattle.std.specs.Prelude.{ℕ, List, Option}
 use Rattle.http_front.specs.Body.{Data, data_of}
 use Rattle.http_front.specs.declared.body.BodyIn.{BodyIn}

@@ -1,4 +1,4 @@
--- What a call on a body answers, by what stands before and after it: the body, the inbox, and what the client tells.
+-- The calls on a body by their two moments, each of the body, the inbox, and what the client tells.
 use Rattle.std.specs.Prelude.{ℕ, ◌≡◌, ◌≤◌, ◌<◌, ◌+◌, Bool, true, false, List, length, take, Option, Some, None, IfSome, IsTrue}
 use Rattle.jk_io.specs.Moments.{Moment}
 use Rattle.jk_io.specs.Told.{prepended, Rose}

@@ -1,4 +1,4 @@
--- What a call wants of a body, and which bytes decide what it answers.
+-- The data that a call wants of a body, and the bytes that decide its answer.
 use Rattle.std.specs.Prelude.{ℕ, ◌+◌, Bool, ◌&&◌, ◌||◌, nat_le, List, length, take}
 use Rattle.http_front.specs.Body.{Data, data_from, reaches}
 use Rattle.http_front.specs.Places.{is_limited}

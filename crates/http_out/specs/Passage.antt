@@ -1,4 +1,4 @@
--- What a write to the client leaves behind.
+-- A write to the client: the piece went out whole, or a front of it and then nothing more.
 use Rattle.std.specs.Prelude.{◌≡◌, ℕ, true, ◌||◌, List, length, nat_lt, Option, Result, Ok, Err, ⊤}
 use Rattle.jk_io.specs.Told.{appended, PutsFront}
 use Rattle.http_out.specs.declared.passage.Passage.{Passage}

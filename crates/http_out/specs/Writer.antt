@@ -1,4 +1,4 @@
--- What a writer of replies does at each step, and that its steps make the reply's bytes.
+-- A writer of replies, step by step: a head, chunks and an end, which together make the reply's bytes.
 use Rattle.std.specs.Prelude.{if◌then◌else◌, ◌≡◌, ℕ, Bool, true, false, ◌&&◌, ◌||◌, not, List, [], ◌∷◌, ◌++◌, length, nat_lt, Option, Some, None, unwrap_or, Result, Ok, Err}
 use Rattle.jk_io.specs.Told.{appended, PutsFront}
 use Rattle.http_out.specs.declared.framing.RequestKind.{RequestKind}

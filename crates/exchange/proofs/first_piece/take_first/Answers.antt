@@ -1,4 +1,4 @@
--- What the take of the first piece gave, or why it gave none.
+-- The take of the first piece: the piece, or why there is none.
 use Rattle.std.proofs.Common.{arith, ◌∙◌}
 use Rattle.exchange.proofs.FirstLaws.{calm_first, fails_first, takes_first, uses_first}
 use Rattle.exchange.proofs.first_piece.take_first.Goals as goal

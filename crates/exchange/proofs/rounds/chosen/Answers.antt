@@ -1,4 +1,4 @@
--- What the desk answered.
+-- An ask by the desk's answer: a member was chosen, or why none was.
 use Rattle.std.proofs.Common.{refl}
 use Rattle.exchange.specs.Steps as no_lease_as
 use Rattle.exchange.proofs.rounds.chosen.Goals as goal

@@ -1,4 +1,4 @@
--- What the desk answered; talks were held on the member, and its lease went back.
+-- A round: the desk answered, talks were held on the member, and its lease went back.
 use Rattle.std.proofs.Common.{◌≡◌, ℕ, Option, IfSome, refl, sym, ap, subst, arith}
 use Rattle.lb_book.proofs.DeskLaws.{held_made}
 use Rattle.lb_book.specs.Desks.{pair_of}

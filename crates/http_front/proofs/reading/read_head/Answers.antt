@@ -1,4 +1,4 @@
--- What was found is taken from the inbox, and the client is no more touched.
+-- The head that was found is taken from the inbox, and the client is no more touched.
 use Rattle.std.proofs.Common.{◌≡◌, ℕ, List, Option, ap, subst, ◌∙◌}
 use Rattle.jk_io.specs.Told.{prepended}
 use Rattle.http_front.specs.Answer.{IfHead, OnEnd, UsesHead, UsesEnd}

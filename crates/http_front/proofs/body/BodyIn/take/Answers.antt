@@ -1,4 +1,4 @@
--- What a piece and a fault say of the moments before and after.
+-- A piece of the body, or a fault, by the moments before and after.
 use Rattle.std.proofs.Common.{ap, Err, refl, rules, arith}
 use Rattle.http_front.specs.State.{place_of, taken_of, most_of, failed_of}
 use Rattle.http_front.specs.Wants.{Next}
