@@ -1,6 +1,6 @@
--- What `serve`, `container` and `drill` do with the outside, and how they end. Read this first; what a call of the server does
--- is in jk_server's specs/Commands.antt, what one of a drill does in drill's specs/Written.antt, which orders are which command
--- in specs/Orders.antt, and which words are which order in jk_cli's specs/Orders.antt.
+-- `serve`, `container` and `drill`, by what each does with the outside and how it ends. Read this first; a call of the server
+-- is in jk_server's specs/Commands.antt, one of a drill in drill's specs/Written.antt, which orders are which command in
+-- specs/Orders.antt, and which words are which order in jk_cli's specs/Orders.antt.
 use Rattle.std.specs.Prelude.{◌≡◌, ℕ, Bool}
 use Rattle.drill.specs.Written.{RunsDrill}
 use Rattle.drill.specs.declared.writing.DrillEnd.{DrillEnd}

@@ -1,4 +1,4 @@
--- What a plain command does, in one record over its status.
+-- A plain command, in one record over its status.
 use Rattle.std.specs.Prelude.{◌≡◌, ◌↔◌, ℕ, false, ◌⊎◌}
 use Rattle.jk_cli.specs.declared.order.Order.{Order}
 use Rattle.jk_io.specs.Told.{Rose}

@@ -1,4 +1,4 @@
--- What was read in two steps.
+-- A read in two steps is one read of both.
 use Rattle.std.proofs.Common.{◌≡◌, ℕ, List, [], ◌++◌, Option, subst, ap, sym, ◌∙◌}
 use Rattle.jk_io.specs.Told.{appended, prepended}
 use Rattle.jk_io.specs.Inputs.{HasRead}

@@ -1,4 +1,4 @@
--- What a clock answers, where its answers to come are told as a list: the last one stands for all later ones, and
+-- The answers of a clock, where those to come are told as a list: the last one stands for all later ones, and
 -- where there is none at all the clock answers 0.
 use Rattle.std.specs.Prelude.{◌≡◌, ℕ, List, [], ◌∷◌, Option, IfSome}
 use Rattle.std.specs.Option.{option_map}

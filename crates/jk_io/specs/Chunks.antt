@@ -1,4 +1,4 @@
--- What reading a chunk of an input on tells of its source and of the text so far.
+-- One chunk more of an input: its source and the text so far, afterwards.
 use Rattle.std.specs.Prelude.{◌≡◌, ℕ, ◌<◌, ◌≤◌, List, Result, Ok, IsOk, OnOk, IsErrOf, Bool, true, false}
 use Rattle.jk_io.specs.Told.{IsEmpty, Rose}
 use Rattle.jk_io.specs.Moments.{Moment}

@@ -1,4 +1,4 @@
--- What a door tells at a moment, and how clients come from it and go back. Read this first.
+-- A door at a moment, and how clients come from it and go back. Read this first.
 use Rattle.std.specs.Prelude.{ℕ, ◌≡◌, ◌≤◌, ◌+◌, List, [], ◌∷◌, Option}
 use Rattle.jk_io.specs.Told.{appended, prepended, IsEmpty, Rose}
 use Rattle.jk_io.specs.declared.traits.surroundings.Peer.{Peer}

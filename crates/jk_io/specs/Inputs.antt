@@ -1,4 +1,4 @@
--- What was read of an input, whole or in part.
+-- The bytes that were read of an input, whole or in part.
 use Rattle.std.specs.Prelude.{◌≡◌, ℕ, ◌<◌, ◌≤◌, List, ◌++◌, length, Option, Result, Ok, OnOk, IsErrOf, Bool, true}
 use Rattle.jk_io.specs.Told.{appended, prepended}
 use Rattle.jk_io.specs.declared.failures.FileError.{FileError}

@@ -1,4 +1,4 @@
--- What contracts see of a door in memory.
+-- A door in memory as contracts see it: its clients to come, the links that were left, and the accepts that fail.
 use Rattle.std.specs.Prelude.{ℕ, List}
 use Rattle.jk_io.specs.declared.traits.surroundings.Peer.{Peer}
 

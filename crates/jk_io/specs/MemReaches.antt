@@ -1,4 +1,4 @@
--- What contracts see of a reach in memory, and which of its links a talk gets.
+-- A reach in memory as contracts see it, and which of its links a talk gets.
 use Rattle.std.specs.Prelude.{◌≡◌, ℕ, ◌+◌, ◌<◌, List, [], length, All, Some, Bool, true, false, ◌==◌, ◌&&◌}
 use Rattle.std.specs.List.{HoldsAt, AllWithin, remove}
 use Rattle.jk_io.specs.Memory.{MemLinkState, NeverFails, DialledNext}

@@ -1,4 +1,4 @@
--- What contracts see of the objects in memory, and which of their calls fail.
+-- Links, files and dials in memory as contracts see them, and which of their calls fail.
 use Rattle.std.specs.Prelude.{◌≡◌, ℕ, ◌+◌, ◌<◌, ◌==◌, ◌⊎◌, min, List, [], ◌∷◌, length, Contains, count_by}
 use Rattle.jk_io.specs.declared.memory.link_plan.LinkPlan.{LinkPlan}
 

@@ -1,4 +1,4 @@
--- What a link tells at a moment, and how often its calls had failed by then. What it doesn't tell is None.
+-- A link at a moment, with the count of its calls that had failed by then. A part that it doesn't tell is None.
 use Rattle.std.specs.Prelude.{ℕ, List, Option}
 
 -- the bytes that are still to come, those that its reads gave, those that its writes took, and the count of faults

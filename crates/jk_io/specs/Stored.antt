@@ -1,4 +1,4 @@
--- What the files hold under a name.
+-- The content of the files under a name.
 use Rattle.std.specs.Prelude.{List, [], ◌∷◌, ℕ, Option, Some, None, if◌then◌else◌}
 use Rattle.std.specs.Str.{bytes_eq}
 

@@ -1,4 +1,4 @@
--- What contracts see of a book of talks.
+-- A book of talks as contracts see it: the talks that ended, the running one, and room for the note of its bytes.
 use Rattle.std.specs.Prelude.{ℕ, List, Option}
 use Rattle.jk_io.specs.declared.reaching.Talk.{Talk}
 use Rattle.jk_io.specs.declared.reaching.Begun.{Begun}

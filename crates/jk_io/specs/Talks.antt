@@ -1,4 +1,4 @@
--- What a talk was begun with, what was said in it, and how it becomes one of the talks that ended.
+-- A talk: its begin, the bytes that were said in it, and its note among the talks that ended.
 use Rattle.std.specs.Prelude.{◌≡◌, ℕ, List, [], Option, None, IfSome, Bool, false}
 use Rattle.jk_io.specs.declared.reaching.Talk.{Talk}
 use Rattle.jk_io.specs.declared.reaching.Begun.{Begun}

@@ -1,5 +1,5 @@
--- What a meaning says that may be told or not, as lists that grow at their end or are used from the front, and
--- when a count of faults rose. An untold meaning is None, and each equation here then says nothing.
+-- Meanings that may be told or not: lists that grow at their end or are used from the front, and counts of faults that
+-- rise. An untold meaning is None, and each equation here then says nothing.
 use Rattle.std.specs.Prelude.{◌≡◌, ℕ, ◌+◌, ◌≤◌, min, List, [], ◌++◌, Option, Some, None, IfSome, Result, IsErrOf}
 use Rattle.jk_io.specs.declared.failures.IoError.{IoError}
 use Rattle.jk_io.specs.declared.failures.IoError.TheVariants.{Failed, NoMemory}

@@ -1,4 +1,4 @@
--- What the last cuts of a run do with the first gear.
+-- The last cuts of a run on the first gear's shelf, and its closing, told of the configuration.
 use Rattle.std.proofs.Common.{ℕ, ◌≡◌, List, [], ◌∷◌, map, Option, Result, Ok, Err, inl, inr, sym, ap, subst}
 use Rattle.std.specs.Prelude.{OnErr}
 use Rattle.jk_io.specs.Told.{Rose}

@@ -1,4 +1,4 @@
--- What was done in each slot, said of the gears.
+-- The slots of a run, told of its gears: each gear was served by its worker.
 use Rattle.std.proofs.Common.{ℕ, ◌≡◌, ◌+◌, List, [], ◌∷◌, length, map, Option, refl, subst, arith}
 use Rattle.std.specs.Prelude.{sum_by}
 use Rattle.std.specs.List.{All}

@@ -1,4 +1,4 @@
--- What was done in each slot, and what was left of it.
+-- The slots of a run, served in their order and then taken apart, and the room for all that they leave.
 use Rattle.std.proofs.Common.{ℕ, suc, ◌≡◌, ◌+◌, ◌<◌, ◌≤◌, List, [], ◌∷◌, ◌++◌, length, take, refl, subst, sym, ap, ◌∙◌, add-one, arith}
 use Rattle.std.specs.Prelude.{slice_index_or}
 use Rattle.std.specs.List.{All}

@@ -1,4 +1,4 @@
--- What a desk has seen as its own is what the sessions of its worker were told.
+-- The own entries that a desk has seen are those that its worker's sessions were told.
 use Rattle.std.proofs.Common.{ℕ, ◌≡◌, List, [], ◌∷◌, ◌++◌, map, inl, inr, refl, sym, ap, ◌∙◌, subst, append-nil, append_assoc}
 use Rattle.std.specs.List.{All}
 use Rattle.std.proofs.lemmas.Grind.{flat_map-append}

@@ -1,5 +1,5 @@
--- What `serve` and `container` do with the outside, and how they end. Read this first; what a run does is in specs/Runs.antt and
--- specs/Containers.antt.
+-- `serve` and `container`, by what each does with the outside and how it ends. Read this first; a run of the one is in
+-- specs/Runs.antt, and one of the other in gear_parts' specs/Containers.antt.
 use Rattle.std.specs.Prelude.{◌≡◌, ℕ, ◌-◌, ◌≤◌, ◌⊎◌, min, max, List, [], length, map, Option, Some, None, codes}
 use Rattle.std.specs.List.{All, AllZip}
 use Rattle.client_session.specs.Requests.{visit}

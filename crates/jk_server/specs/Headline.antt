@@ -1,4 +1,4 @@
--- What a run of all workers comes to: one list of entries of the balancers, and what each client was given. Read this first.
+-- The headline of a run: one list of entries of the balancers, and a session for each client. Read this first.
 --
 -- Of the run there is one list of entries, sound from where the balancers of the configuration start and ending in the present
 -- state of the Books, of which the last segments went to the shelf. The sessions of each worker were told exactly the entries of

@@ -1,4 +1,4 @@
--- What the types of a part tell, and what its worker has at a moment.
+-- A part by what its types tell, and its worker at a moment.
 use Rattle.std.specs.Prelude.{ℕ, Bool, List, Option}
 use Rattle.jk_io.specs.declared.reaching.Beside.{Beside}
 use Rattle.jk_io.specs.declared.traits.streams.Meanings.{Ghosts}

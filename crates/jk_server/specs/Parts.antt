@@ -1,4 +1,4 @@
--- What each worker of a run did, and what was left of its slot.
+-- The workers of a run, each at its part, and the gear, the leaving and the end that are left of its slot.
 use Rattle.std.specs.Prelude.{ℕ, ◌≡◌, ◌+◌, ◌<◌, false, is_some, List, [], ◌∷◌, length, slice_index_or, Option}
 use Rattle.jk_io.specs.declared.reaching.Beside.{Beside}
 use Rattle.jk_io.specs.declared.traits.streams.Meanings.{Ghosts}

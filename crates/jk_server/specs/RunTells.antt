@@ -1,4 +1,4 @@
--- What the parts of gears tell.
+-- The parts of gears by what their types tell: door, talks, clock, client's link, shelf and log.
 use Rattle.std.specs.Prelude.{ℕ, Bool, List, map, Option}
 use Rattle.conn_pool.specs.declared.tape.Tape.{Ghosts as TapeGhosts}
 use Rattle.jk_io.specs.declared.reaching.Talk.{Talk}

@@ -1,4 +1,4 @@
--- What a run of a connector's workers did with their gears. Read this first.
+-- A run of a connector's workers, told of the gears before and after it. Read this first.
 use Rattle.std.specs.Prelude.{ℕ, ◌≡◌, ◌+◌, List, [], ◌∷◌, Option, None}
 use Rattle.jk_io.specs.declared.traits.streams.Meanings.{Ghosts}
 use Rattle.jk_io.specs.declared.traits.surroundings.Peer.{Peer}

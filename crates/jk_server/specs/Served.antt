@@ -1,4 +1,4 @@
--- What a connector's worker did with its clients, and why it ended. Read this first.
+-- The clients that a connector's worker served, in order, and why it ended. Read this first.
 use Rattle.std.specs.Prelude.{ℕ, ◌≡◌, ◌<◌, ◌⊎◌, min, true, List, [], ◌∷◌, ◌++◌, length, map, Option, Some, None}
 use Rattle.std.specs.List.{All}
 use Rattle.jk_io.specs.Told.{appended, IsEmpty, Rose}

@@ -1,4 +1,4 @@
--- What the workers of a run did with its gears.
+-- A run over its gears: each is served by the worker of its place, and comes back.
 use Rattle.std.specs.Prelude.{ℕ, ◌≡◌, List, length, map, Option, Some, sum_by}
 use Rattle.std.specs.List.{All}
 use Rattle.atomic_table.specs.Seated.{TableId}

@@ -1,4 +1,4 @@
--- What the last cuts of a run did with the first gear's shelf, and how the closing ended by that.
+-- The last cuts of a run on the first gear's shelf, and how the closing ended by them.
 use Rattle.std.specs.Prelude.{ℕ, ◌≡◌, ◌⊎◌, List, [], Option}
 use Rattle.jk_io.specs.Told.{Rose}
 use Rattle.lb_model.specs.declared.journal.Entry.{Entry}

@@ -1,4 +1,4 @@
--- What a worker has beside its door at a moment, and what it does between two sessions.
+-- A worker beside its door: its desk, clock, reach and log at a moment, and its steps between two sessions.
 use Rattle.std.specs.Prelude.{ℕ, ◌≡◌, ◌+◌, Bool, true, false, List, [], length, Option, None}
 use Rattle.jk_io.specs.Answers.{Answers}
 use Rattle.jk_io.specs.Moments.{Moment}

@@ -1,4 +1,4 @@
--- What `demo` runs: two containers, a and b, and a front before them. The front is `serve` over the two texts that stand here,
+-- The demo: two containers, a and b, and a front before them. The front is `serve` over the two texts that stand here,
 -- and each container is `container` of its route.
 use Rattle.std.specs.Prelude.{◌≡◌, ℕ, List, [], ◌∷◌, ◌++◌, ◌⊎◌, Some, None, codes, decimal}
 use Rattle.jk_cli.specs.declared.order.Order.{Order}

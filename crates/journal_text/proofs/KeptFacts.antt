@@ -1,4 +1,4 @@
--- What is kept stays kept with a further entry.
+-- Entries that a segment may keep, with a further one.
 use Rattle.std.proofs.Common.{◌≡◌, ℕ, suc, zero, ◌⊎◌, List, [], ◌∷◌, ◌++◌, All, Some, None, inl, inr, ⊎_elim, subst}
 use Rattle.std.specs.Prelude.{slice_get}
 use Rattle.std.proofs.lemmas.List.Elements.{All-nil, All-cons, All-append}

@@ -1,4 +1,4 @@
--- What the reader of a text keeps of what it has read, so that it can be made segments.
+-- The reader of a text, whose openings and entries can be made segments.
 use Rattle.std.specs.Prelude.{ℕ, All}
 use Rattle.lb_model.specs.Segments.{AreKeptEntries, AreRules}
 use Rattle.lb_model.specs.Validity.{IsOpening}

@@ -1,4 +1,4 @@
--- What the words of a line say. A line is of its form where it is just what its words say, written again.
+-- The words of a line, read. A line is of its form where it is just what its words say, written again.
 use Rattle.std.specs.Prelude.{ℕ, Bool, ◌==◌, List, [], ◌∷◌, length, drop, Option, Some, None, suc, zero, nat_eq, codes, if◌then◌else◌, option_map}
 use Rattle.std.specs.List.{starts_with}
 use Rattle.std.specs.Str.{bytes_eq}

@@ -1,4 +1,4 @@
--- What a Book's answers say of the entry that is judged.
+-- The entry that is judged, by the answers of the Book that replays the journal.
 use Rattle.std.proofs.Common.{Bool, take, length, reverse, ◌≡◌, ◌≤◌, ℕ, ◌+◌, true, false, List, [], ◌∷◌, ◌++◌, Some, None, refl, sym, ap, subst, ◌∙◌}
 use Rattle.std.specs.Prelude.{slice_get}
 use Rattle.std.proofs.Math.Nat.{max-eq_left}

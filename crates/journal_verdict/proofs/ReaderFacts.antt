@@ -1,4 +1,4 @@
--- What the check of a text needs of its reader: that it doesn't look at the segments before, and how many lines it took.
+-- The reader in the check of a text: it doesn't look at the segments before, and counts the lines that it took.
 use Rattle.std.proofs.Common.{◌≡◌, ℕ, suc, ◌+◌, ◌⊎◌, inl, inr, Bool, true, false, List, [], ◌∷◌, ◌++◌, length, Option, Some, None, refl, sym, ap, subst, ◌∙◌, append_assoc, length-append, arith}
 use Rattle.std.specs.Prelude.{MatchOption, nat_le, if◌then◌else◌}
 use Rattle.std.proofs.lemmas.List.{length-map}

@@ -1,4 +1,4 @@
--- What the check of a text has, as far as the text's lines were taken.
+-- The check of a text, as far as the text's lines were taken.
 use Rattle.std.specs.Prelude.{◌≡◌, ℕ, ◌+◌, ◌&&◌, Bool, true, false, nat_lt, List, [], ◌∷◌, length, Some, Result, Ok, Err}
 use Rattle.journal_text.specs.Kept.{IsSound}
 use Rattle.journal_text.specs.Reading.{Refuses, TakesText, is_end, is_over}

@@ -1,4 +1,4 @@
--- What segments come to, one after the other, and how many lines of a further one are read.
+-- The check of segments, one after the other, and how many lines of a further one are read.
 use Rattle.std.specs.Prelude.{◌≡◌, ℕ, ◌+◌, ◌^◌, ◌<◌, ◌≤◌, ◌⊎◌, List, ◌++◌, length, reverse, Option, Some, None, Result, Ok, Err}
 use Rattle.lb_book.specs.Journal.{Journal, past_of}
 use Rattle.lb_model.specs.Legal.{IsLegal}

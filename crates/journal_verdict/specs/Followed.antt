@@ -1,4 +1,4 @@
--- What a text's bytes show of its balancer, however they came. Read first.
+-- A balancer as the bytes of its text show it, however they came. Read first.
 use Rattle.std.specs.Prelude.{◌≡◌, ◌≢◌, ℕ, ◌+◌, ◌⊎◌, List, [], ◌∷◌, ◌++◌, length, reverse, Option, Some, None, Result, Ok, Err}
 use Rattle.std.specs.List.{All, flat_map}
 use Rattle.lb_model.specs.Present.{IsPresent}

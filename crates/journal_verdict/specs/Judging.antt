@@ -1,4 +1,4 @@
--- What the Book that replays a journal has at an entry.
+-- The Book that replays a journal, at an entry: it goes on by the entry, or the entry differs.
 use Rattle.std.specs.Prelude.{◌≡◌, ◌≤◌, List, [], ◌∷◌, ◌++◌, Option, Some, None}
 use Rattle.lb_book.specs.Journal.{Journal, next_number, past_of}
 use Rattle.lb_model.specs.Journal.{moment_of}

@@ -1,4 +1,4 @@
--- What each line of a journal's text makes of what is known.
+-- The stand of a journal's text, known after some lines, and the next line: taken, or refused.
 use Rattle.std.specs.Prelude.{◌≡◌, ◌≢◌, ℕ, ◌-◌, Bool, true, false, List, [], ◌∷◌, ◌++◌, length, reverse, Option, Some, None, slice_index_or}
 use Rattle.lb_model.specs.Legal.{IsNext}
 use Rattle.lb_model.specs.Present.{IsEnding}

@@ -1,4 +1,4 @@
--- What the code keeps of what is known.
+-- The machine that follows a text, and how its run's Book has what is known.
 use Rattle.std.specs.Prelude.{◌≡◌, ◌≢◌, ℕ, ◌+◌, ◌-◌, ◌<◌, ◌⊎◌, slice_index_or, Bool, true, false, List, [], ◌∷◌, ◌++◌, length, reverse, Option, Some, None, Result, Ok, Err}
 use Rattle.lb_book.specs.Journal.{past_of}
 use Rattle.lb_model.specs.Journal.{moment_of}

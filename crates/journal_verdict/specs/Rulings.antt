@@ -1,4 +1,4 @@
--- What the check of a journal says of an entry: that it follows from those before it, or what it has and ought to have.
+-- The ruling on an entry of a journal: it follows from those before it, or what it has and ought to have.
 use Rattle.std.specs.Prelude.{◌≡◌, ℕ, zero, suc, ◌+◌, ◌^◌, ◌<◌, ◌≤◌, true, false, List, length, reverse, take, slice_get, Some}
 use Rattle.lb_book.specs.Commanded.{IsKnown}
 use Rattle.lb_model.specs.Journal.{maintained_of, members, moment_of, next_of}

@@ -1,4 +1,4 @@
--- What the check of a journal's text says: that it is good, or the first line that differs.
+-- The verdict on a journal's text: that it is good, or the first line that differs.
 use Rattle.std.specs.Prelude.{◌≡◌, ℕ, ◌+◌, ◌<◌, List, [], ◌∷◌, ◌++◌, length, map, reverse, sum_by, slice_get, Option, Some, None, Result, Ok, Err}
 use Rattle.lb_model.specs.Legal.{IsLegal}
 use Rattle.lb_model.specs.Present.{IsEnding}

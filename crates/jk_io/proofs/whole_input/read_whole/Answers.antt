@@ -1,4 +1,4 @@
--- What read_whole has read: the text and a last chunk.
+-- The bytes that read_whole has read: the text and a last chunk.
 use Rattle.std.proofs.Common.{◌≡◌, ◌∙◌, Ok, Err, refl, ap}
 use Rattle.jk_io.specs.declared.failures.FileError.TheVariants.{Failed, TooLong, NoMemory}
 use Rattle.jk_io.proofs.ChunkLaws.{kept_some}

@@ -1,4 +1,4 @@
--- What was counted is a front of the piece.
+-- The counted bytes are a front of the piece.
 use Rattle.std.proofs.Common.{rules}
 use Rattle.jk_io.proofs.ToldLaws.{taken_put}
 use Rattle.jk_io.proofs.writing.write_all.Goals as goal

@@ -1,4 +1,4 @@
--- What was copied is what came next.
+-- The copied bytes are the next ones of the link.
 use Rattle.std.proofs.Common.{◌++◌, take, ap, sym, ◌∙◌}
 use Rattle.jk_io.specs.Memory.{MemLinkState}
 use Rattle.jk_io.proofs.PieceLaws.{gave_front, got_front}
