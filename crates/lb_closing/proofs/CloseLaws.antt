@@ -1,4 +1,4 @@
--- What a discord of the receipts and the kept entries says of a closing.
+-- A discord of a closing: first of the receipts that were gathered, then of those that the desks left.
 use Rattle.std.proofs.Common.{◌≡◌, ℕ, Bool, false, List, Result, Ok, Err, sym, ◌∙◌, subst}
 use Rattle.std.specs.Prelude.{IfErr, IfOk}
 use Rattle.std.specs.List.Sorted.{IsPermutation}

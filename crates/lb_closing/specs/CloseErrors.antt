@@ -1,4 +1,4 @@
--- What an error of the closing says.
+-- The errors of the closing: a discord of this kind, or want of memory.
 use Rattle.lb_closing.specs.Closings.{DiscordNote}
 use Rattle.lb_closing.specs.declared.close.CloseError.{CloseError}
 use Rattle.lb_closing.specs.declared.close.CloseError.TheVariants as close

@@ -1,4 +1,4 @@
--- What the ranges of a list of members say of each of them.
+-- Members within their ranges: no factor is 0.
 use Rattle.std.proofs.Common.{◌<◌, ◌≤◌, List, All, get_or, arith}
 use Rattle.std.proofs.lemmas.List.Elements.{All-map}
 use Rattle.std.proofs.lemmas.Option.{slice_get-get_or}

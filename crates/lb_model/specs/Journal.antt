@@ -1,4 +1,4 @@
--- What a single entry says: whom it chose, which ticket it made or returned, and where the journal then stands.
+-- The place that a journal has come to: its next number, its moment, the member chosen last, the last maintenance.
 -- Everywhere `p` is the past: the entries of a journal, newest first.
 use Rattle.std.specs.Prelude.{ℕ, suc, zero, ◌+◌, ◌==◌, Bool, true, false, List, [], ◌∷◌, ◌++◌, length, Option, Some, None, ◌||◌, if◌then◌else◌}
 use Rattle.lb_model.specs.declared.journal.Call.{Call}

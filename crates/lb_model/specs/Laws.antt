@@ -1,4 +1,4 @@
--- What the definitions are to mean, said without them where that can be: the laws that `laws` proves.
+-- The laws that `laws` proves: the meaning of the definitions, said without them where that can be.
 use Rattle.std.specs.Prelude.{◌≡◌, ℕ, ◌/◌, ◌^◌, ◌<◌, ◌≤◌, Bool, true, false, List, ◌∷◌, ◌⊎◌, Some}
 use Rattle.lb_model.specs.Choice.{is_revivable, is_usable, place_of, serves}
 use Rattle.lb_model.specs.Journal.{members}

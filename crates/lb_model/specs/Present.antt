@@ -1,4 +1,4 @@
--- What a history ends with: the view of it, and the opening of the journal that goes on from there.
+-- The end of a history: the view of it, and the opening of the journal that goes on from there.
 use Rattle.std.specs.Prelude.{◌≡◌, ℕ, List, length, reverse, Some, slice_get}
 use Rattle.lb_model.specs.Journal.{last_chosen, maintained_of, members, moment_of, next_of}
 use Rattle.lb_model.specs.Loads.{load_of}

@@ -1,4 +1,4 @@
--- What a segment of a journal keeps of its entries, whether or not they are legal.
+-- The entries that a segment of a journal may keep, whether or not they are legal.
 use Rattle.std.specs.Prelude.{◌≡◌, ℕ, ◌≤◌, Bool, List, Some, slice_get}
 use Rattle.lb_model.specs.Limits.{most_bytes}
 use Rattle.lb_model.specs.declared.ask.Ask.{Ask}

@@ -1,4 +1,4 @@
--- What contracts see of a list of answered requests.
+-- A list of answered requests as contracts see it: its rows, and the room for more.
 use Rattle.std.specs.Prelude.{ℕ, List}
 use Rattle.lb_model.specs.declared.served.Served.{Served}
 

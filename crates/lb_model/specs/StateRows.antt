@@ -1,4 +1,4 @@
--- What each event makes of a member's state: the rows of the table of states, on the state before.
+-- The rows of the table of states: a member's state after each event, by the state before.
 use Rattle.std.specs.Prelude.{ℕ, ◌+◌, ◌==◌, nat_le, Bool, false, if◌then◌else◌}
 use Rattle.lb_model.specs.declared.state.MemberState.{MemberState}
 use Rattle.lb_model.specs.declared.state.MemberState.TheVariants as State

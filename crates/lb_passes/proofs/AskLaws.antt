@@ -1,4 +1,4 @@
--- What a turn that asked for a member tells.
+-- A turn that asked for a member, by the entries that its call gained.
 use Rattle.std.proofs.Common.{◌≡◌, ℕ, ◌-◌, List, ◌∷◌, ◌++◌, [], length, Result, Ok, Err, ap, ◌∙◌}
 use Rattle.std.specs.Prelude.{IfOk, IfErr}
 use Rattle.atomic_table.specs.Table.{Me, rest}

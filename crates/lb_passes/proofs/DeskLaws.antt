@@ -1,4 +1,4 @@
--- What a desk over pass books tells of its calls.
+-- A call of a desk over pass books, told as that of any desk.
 use Rattle.std.proofs.Common.{◌≡◌, ℕ, ◌<◌, ◌≤◌, false, List, [], ◌∷◌, ◌++◌, length, Some, None, Result, Ok, Err, refl, sym, ap, ◌∙◌, subst, inl, inr, arith, length-append}
 use Rattle.std.specs.Prelude.{IfOk, IfErr, OnOk, slice_index}
 use Rattle.std.specs.List.{All}

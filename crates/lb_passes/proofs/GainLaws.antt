@@ -1,4 +1,4 @@
--- What a turn at the Book makes of a caller, by the entries that it added.
+-- A caller after a turn at the Book, with the entries that the turn added.
 use Rattle.std.proofs.Common.{◌≡◌, ℕ, ◌-◌, Bool, true, false, List, [], ◌∷◌, ◌++◌, length, drop, refl, sym, ap, ◌∙◌, subst, arith, length-append}
 use Rattle.std.specs.Prelude.{◌||◌}
 use Rattle.std.specs.List.{All}

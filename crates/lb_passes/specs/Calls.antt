@@ -1,4 +1,4 @@
--- What a call of a desk on one balancer does with the desk's lists.
+-- A call of a desk on one balancer, by the desk's lists before and after it.
 use Rattle.std.specs.Prelude.{◌≡◌, ◌++◌, ◌⊎◌}
 use Rattle.lb_model.specs.declared.ask.Ask.{Ask}
 use Rattle.lb_model.specs.declared.change.Command.{Command}

@@ -1,4 +1,4 @@
--- What a caller knows between its calls, and what one turn at the Book makes of it.
+-- A caller between its calls, and after one turn at the Book.
 use Rattle.std.specs.Prelude.{◌≡◌, ℕ, List, [], ◌∷◌, ◌++◌, length, map, drop, Result, IfOk}
 use Rattle.atomic_table.specs.Table.{Me}
 use Rattle.jk_io.specs.declared.failures.NoMemory.{NoMemory}

@@ -1,4 +1,4 @@
--- What a note carries from one caller to another.
+-- A note from one caller to another: all that a pass has seen, met by another pass.
 use Rattle.std.specs.Prelude.{◌≡◌, ℕ, ◌⊎◌}
 use mathlib.Core.Option.{some}
 use lib.ListN.{get_elem?}

@@ -1,4 +1,4 @@
--- What is told of a desk over pass books, and what its calls make of what its passes know.
+-- A desk over pass books with its passes, and the views of these after each of its calls.
 use Rattle.std.specs.Prelude.{◌≡◌, ℕ, ◌⊎◌, true, false, List, [], ◌∷◌, ◌++◌, length, map, reverse, Some, None}
 use mathlib.Core.Option.{some}
 use lib.ListN.{get_elem?}

@@ -1,4 +1,4 @@
--- What each step tells the caller that takes it.
+-- The steps of callers that take turns, each by the caller before and after it.
 use Rattle.std.specs.Prelude.{◌≡◌, ◌≢◌, ℕ, ◌+◌, ◌-◌, ◌%◌, ◌^◌, ◌⊎◌, false, List, [], ◌∷◌, ◌++◌, length, drop, None}
 use Rattle.atomic_table.specs.Table.{Me, Step, rest}
 use Rattle.lb_model.specs.declared.config.LbConfig.{LbConfig}

@@ -1,4 +1,4 @@
--- What an answer says of the numbers that are left, by all that the caller has then seen.
+-- The numbers that are left by an answer, by all that the caller has then seen.
 use Rattle.std.specs.Prelude.{◌≡◌, ℕ, ◌+◌, ◌^◌, ◌<◌, ◌≤◌, List, [], ◌∷◌, ◌++◌, length, reverse, Result, Ok, Err}
 use Rattle.lb_model.specs.Journal.{next_of}
 use Rattle.lb_model.specs.Settings.{common_after}

@@ -1,4 +1,4 @@
--- What is true between any two steps of the callers that take turns at a Book.
+-- The rule of callers that take turns at a Book, which holds between any two of their steps.
 -- The table has three words, the turns drawn, the turns served and the count of all entries, and one slot, for the Book.
 use Rattle.std.specs.Prelude.{◌≡◌, ℕ, ◌+◌, ◌%◌, ◌^◌, ◌<◌, ◌≤◌, Bool, true, false, List, [], ◌∷◌, length}
 use mathlib.Core.Option.{Option, none, some}

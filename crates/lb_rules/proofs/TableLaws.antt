@@ -1,4 +1,4 @@
--- What the tables of Returns say of the ticket of a spot.
+-- The ticket of a spot, by the tables of Returns: it is out exactly where they have no number for it.
 use Rattle.std.proofs.Common.{◌≡◌, ℕ, ◌<◌, true, false, ◌&&◌, List, [], ◌∷◌, length, reverse, Option, Some, None, get_or, sym, ap, subst, inl, inr, arith}
 use Rattle.std.specs.Prelude.{◌==◌, option_and_then}
 use Rattle.std.specs.List.{list_any}

@@ -1,4 +1,4 @@
--- What a desk did since a moment, after one call more.
+-- A desk since a moment, after one call more: its seat has seen the receipts that the call added.
 use Rattle.std.proofs.Common.{◌≡◌, ℕ, List, [], ◌∷◌, ◌++◌, inl, inr, refl, sym, ap, ◌∙◌, subst, append-nil}
 use Rattle.std.specs.Prelude.{IfErr, IfOk, Result, Ok, Err}
 use Rattle.lb_model.specs.declared.ask.Ask.{Ask}

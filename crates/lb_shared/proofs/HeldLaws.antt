@@ -1,4 +1,4 @@
--- What is so of each answer of a hold.
+-- Facts of a hold's answer, weakened.
 use Rattle.std.specs.Prelude.{IfErr, OnOk, Result, Ok, Err}
 
 pub if_err : {T E : Type 0} (r : Result T E) (P Q : E → Type 0) → ((x : E) → P x → Q x) → IfErr r P → IfErr r Q

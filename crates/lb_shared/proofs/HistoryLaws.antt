@@ -1,4 +1,4 @@
--- What a hold does to the one history of a Site.
+-- The one history of a Site after a hold: grown by the hold's entries, and whole where a Book was cut.
 use Rattle.std.proofs.Common.{◌≡◌, ◌≢◌, ℕ, ◌+◌, ◌-◌, ◌<◌, Bool, cond, List, [], ◌∷◌, ◌++◌, length, map, drop, Option, Some, None, refl, sym, ap, ◌∙◌, subst, inl, inr, arith, append-nil, length-append, length-set, eq-eqb, ne_eqb, eqb-true}
 use Rattle.std.specs.Prelude.{◌==◌, IfErr, IfOk, OnErr, OnOk, Result, Ok, Err, option_map, slice_get, slice_set}
 use Rattle.std.specs.List.{All, filter}

@@ -1,4 +1,4 @@
--- What the calls of one hold add together.
+-- The calls of one hold, taken together: a Maintain that was due, and one entry more, or a refusal.
 use Rattle.std.proofs.Common.{◌≡◌, ℕ, ◌+◌, ◌<◌, ◌≤◌, false, List, [], ◌∷◌, ◌++◌, length, Some, refl, sym, ap, ◌∙◌, subst, inl, inr, arith}
 use Rattle.std.specs.Prelude.{◌^◌, IfSome, MatchOption, Option, None, Ok, Err, slice_get, slice_index, slice_set}
 use Rattle.std.proofs.lemmas.List.{append-nil, append_assoc, length-append, set-set}

@@ -1,4 +1,4 @@
--- What the seats of desks that left tell of the one history of a Site.
+-- The one history of a Site, by the seats of the desks that left.
 use Rattle.std.proofs.Common.{◌≡◌, ◌≢◌, ℕ, suc, Bool, false, cond, List, [], ◌∷◌, ◌++◌, map, refl, sym, ap, ◌∙◌, subst, arith, append-nil, append_assoc, eq-eqb, length, drop, ne_eqb, Option}
 use Rattle.std.specs.Prelude.{◌==◌}
 use Rattle.std.specs.List.{All, filter}

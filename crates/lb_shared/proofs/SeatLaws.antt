@@ -1,4 +1,4 @@
--- What a seat has seen after a hold of the Site's lock.
+-- A seat after a hold of the Site's lock, with all that it has then seen.
 use Rattle.std.proofs.Common.{◌≡◌, ℕ, true, false, List, [], ◌∷◌, ◌++◌, Option, Some, None, sym, ap, ◌∙◌, subst}
 use Rattle.atomic_table.specs.Seated.{TableId}
 use Rattle.atomic_table.specs.Table.{Me, rest}

@@ -1,4 +1,4 @@
--- What a hold of the lock is for the desk that has it.
+-- A hold of the lock, told of the desk that has it.
 use Rattle.std.proofs.Common.{◌≡◌, ℕ, zero, suc, ◌+◌, ◌^◌, ◌<◌, ◌≤◌, true, false, not, List, [], ◌∷◌, ◌++◌, length, take, drop, get_or, Option, Some, None, refl, sym, ap, ◌∙◌, subst, inl, inr, arith, append-nil}
 use Rattle.std.specs.Prelude.{◌&&◌, IfErr, IfOk, IfSome, OnErr, OnOk, Result, Ok, Err, reverse, slice_get, slice_index}
 use Rattle.std.specs.List.{AllByRecursion as ByRecursion}

@@ -1,4 +1,4 @@
--- What became of a desk's shelf since a moment, after one call more.
+-- A desk's shelf since a moment, after one call more: segments were added, or none, and no count fell.
 use Rattle.std.proofs.Common.{◌≡◌, ℕ, ◌≤◌, List, [], ◌∷◌, ◌++◌, length, drop, Option, Some, None, inl, inr, refl, sym, ap, ◌∙◌, arith}
 use Rattle.std.specs.Prelude.{⊤}
 use Rattle.jk_io.specs.Told.{appended}

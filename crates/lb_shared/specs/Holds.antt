@@ -1,4 +1,4 @@
--- What one hold of the lock does: a Maintain if due, and then a call, on one Book.
+-- One hold of the lock: a Maintain if due, and then a call, on one Book.
 use Rattle.std.specs.Prelude.{◌≡◌, ℕ, ◌+◌, ◌-◌, ◌<◌, ◌≤◌, ◌⊎◌, Bool, false, List, [], ◌∷◌, ◌++◌, length, sum_by, Option, Some, None, Result, Ok, Err, slice_get, slice_index, slice_set, vec_capacity}
 use Rattle.std.specs.List.{All}
 use Rattle.lb_model.specs.Free.{is_in}

@@ -1,4 +1,4 @@
--- What is told of a desk that is lent.
+-- A desk that is lent, if one is: which it is, its state, its seat and its shelf.
 use Rattle.std.specs.Prelude.{ℕ, [], Option, Some, None}
 use Rattle.std.specs.Borrow.{MutBor}
 use Rattle.lb_book.specs.Desks.{DeskState}

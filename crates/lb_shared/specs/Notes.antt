@@ -1,4 +1,4 @@
--- What contracts see of the values that a Site hands out: which balancer they are of, and what it said.
+-- The values that a Site hands out, each with its balancer: leases, refusals, views and strays.
 use Rattle.std.specs.Prelude.{ℕ, Option, Some, None}
 use Rattle.lb_model.specs.declared.journal.Answer.{Answer}
 use Rattle.lb_model.specs.declared.journal.Answer.TheVariants as answer

@@ -1,4 +1,4 @@
--- What is told of a desk over a Site that is shared, and what it keeps.
+-- A desk over a Site that is shared: its state, its shelf and its seat, and the same after each of its calls.
 use Rattle.std.specs.Prelude.{◌≡◌, ℕ, suc, true, false, drop, slice_get, slice_index_or, ◌+◌, ◌<◌, ◌≤◌, ◌⊎◌, ◌↔◌, List, [], ◌∷◌, length, Option, Some, None, IfSome, IsSome, Result, Ok, Err}
 use Rattle.std.specs.List.{All}
 use Rattle.jk_io.specs.Told.{Rose, appended}

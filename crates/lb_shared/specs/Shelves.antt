@@ -1,4 +1,4 @@
--- What contracts see of a shelf in memory, what a segment of a Site is, and what became of a desk's shelf.
+-- A shelf in memory as contracts see it, the segment of a Book that was cut, and a desk's shelf since a moment.
 use Rattle.std.specs.Prelude.{◌≡◌, ℕ, ◌≤◌, List, [], drop, length, Option, Some, None, slice_get, slice_set}
 use Rattle.jk_io.specs.Told.{appended}
 use Rattle.lb_model.specs.Legal.{IsLegal}

@@ -1,4 +1,4 @@
--- What was gathered, told of what the desks left.
+-- The gathered receipts are those that the desks left.
 use Rattle.std.proofs.Common.{refl}
 use Rattle.lb_closing.proofs.CloseLaws.{differs_left, err_left, ok_left, once_from}
 use Rattle.lb_closing.proofs.close.close_desks.Goals as goal

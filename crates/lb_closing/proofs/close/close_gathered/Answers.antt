@@ -1,4 +1,4 @@
--- What the comparison says of what was gathered.
+-- The gathered receipts compared with the kept entries: each entry once, or the first discord.
 use Rattle.std.proofs.Common.{List, refl, subst}
 use Rattle.lb_shared.specs.Histories.{IsClosed, SeatNote}
 use Rattle.lb_book.proofs.HoldLaws.{of_error}

@@ -1,4 +1,4 @@
--- What was gathered, told of what the desks left.
+-- A closing with the lock's own desks: by their seats and shares the history has no entries of others.
 use Rattle.std.proofs.Common.{◌≡◌, List, subst, sym, ◌∙◌}
 use Rattle.std.specs.List.{All}
 use Rattle.std.proofs.lemmas.List.Elements.{All-map}

@@ -1,4 +1,4 @@
--- What was taken so far, and what is left, are all.
+-- The leavings taken so far and those that are left are all of them.
 use Rattle.std.proofs.Common.{◌≡◌, ◌+◌, ◌≤◌, ◌++◌, false, length, map}
 use Rattle.std.specs.Prelude.{◌↔◌, sum_by, vec_capacity, vec_len}
 use Rattle.std.specs.List.{All, flat_map}

@@ -1,4 +1,4 @@
--- What the Books so far added.
+-- The count of the entries that the Books so far added.
 use Rattle.std.proofs.Common.{◌≡◌, take}
 use Rattle.lb_shared.specs.Sites.{added_in}
 use Rattle.lb_closing.proofs.kept.added_by.Given as goal

@@ -1,4 +1,4 @@
--- What was met is seen, and nothing else changes.
+-- The note that was met is seen, and nothing else changes.
 use Rattle.std.proofs.Common.{◌≡◌, ◌∙◌, ◌<◌, ℕ, List, length, set, sym, ap, subst}
 use mathlib.Core.Option.{some, some-injective}
 use lib.ListN.{get_elem?}

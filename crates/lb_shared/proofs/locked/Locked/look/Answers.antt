@@ -1,4 +1,4 @@
--- What a look says.
+-- A look at a Book: its rows and its next number, as they are at present.
 use Rattle.std.proofs.Common.{◌≤◌, List, sym, subst}
 use Rattle.lb_book.specs.Journal.{Journal}
 use Rattle.lb_shared.specs.Sites.{added_in}

@@ -1,4 +1,4 @@
--- What the desk did since some moment, after this call too.
+-- The desk since some moment, after this ask too.
 use Rattle.lb_shared.proofs.GoneLaws.{adds_chosen, gone_may}
 use Rattle.lb_shared.proofs.ShelfLaws.{shelved_put}
 use Rattle.lb_shared.proofs.seated_desk.SharedDeskSeatedDesk.choose_here.Goals as goal

@@ -1,4 +1,4 @@
--- What the desk did since some moment, after this call too.
+-- The desk since some moment, after this command too.
 use Rattle.lb_shared.proofs.GoneLaws.{adds_commanded, gone_may}
 use Rattle.lb_shared.proofs.ShelfLaws.{shelved_put}
 use Rattle.lb_shared.proofs.seated_desk.SharedDeskSeatedDesk.command_here.Goals as goal

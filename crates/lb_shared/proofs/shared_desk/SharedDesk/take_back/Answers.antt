@@ -1,4 +1,4 @@
--- What a Return tells.
+-- The shelf after a Return, done or refused.
 use Rattle.std.proofs.Common.{◌≡◌, Bool, true, subst, sym}
 use Rattle.lb_shared.specs.SharedDesks.{CutsOrWants}
 use Rattle.lb_shared.specs.Holds.{cut_in}

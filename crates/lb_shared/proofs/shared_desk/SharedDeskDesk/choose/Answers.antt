@@ -1,4 +1,4 @@
--- What a call of a shared desk tells.
+-- An ask of a shared desk: its answer, and the desk, its shelf and its seat afterwards.
 use Rattle.std.proofs.Common.{sym}
 use Rattle.lb_shared.specs.SharedDesks.{stray_in}
 use Rattle.lb_shared.proofs.SharedLaws.{final_err, final_ok, full_kept}

@@ -1,4 +1,4 @@
--- What a Return tells, but whether memory was wanted for a cut.
+-- The shelf after a ticket was handed back, whether or not memory was wanted for a cut.
 use Rattle.lb_shared.proofs.ShelfLaws.{put_untold}
 use Rattle.lb_shared.proofs.shared_desk.SharedDeskDesk.hand_back.Goals as goal
 

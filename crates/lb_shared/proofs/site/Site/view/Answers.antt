@@ -1,4 +1,4 @@
--- What a Book's view says, told of its balancer.
+-- The view of a Book, told of its balancer.
 use Rattle.std.proofs.Common.{◌≡◌, Some}
 use Rattle.std.specs.Prelude.{slice_get}
 use Rattle.lb_model.specs.Present.{IsPresent}
