@@ -1,4 +1,4 @@
--- What `dry` prints of texts that are read two by two.
+-- The output of `dry`, of texts that are read two by two.
 use Rattle.std.proofs.Common.{ℕ, List, [], ◌∷◌, Option, None, Some, Result, Ok, Err, IfOk, inl, inr}
 use Rattle.jk_cli.specs.declared.order.Order.TheVariants as order
 use Rattle.plain_commands.specs.Endings.{status_of, PlainOfFiles, PrintsOfFiles}

@@ -1,4 +1,4 @@
--- What `log` prints of its format and its four texts.
+-- The output of `log`, of its format and its four texts.
 use Rattle.std.proofs.Common.{◌≡◌, ℕ, List, [], ◌∷◌, Option, Some, Result, Ok, Err, IfOk, inl, inr}
 use Rattle.jk_cli.specs.declared.order.Order.TheVariants as order
 use Rattle.request_log.specs.Formats.{IsFormat, IsRefusedFrom, refusal_line}

@@ -1,4 +1,4 @@
--- What the calls of a reach make of the links that its talks were done over.
+-- A reach after each of its calls, and the links over which its talks were done.
 use Rattle.std.proofs.Common.{◌≡◌, ℕ, Bool, true, false, List, [], ◌∷◌, ◌++◌, take, Option, Some, None, is_some, is_ok, Result, Ok, Err, IfOk, OnOk, OnErr, IsErrOf, IfSome, Contains, if◌then◌else◌, refl, sym, ap, subst, ◌∙◌, append_assoc, arith}
 use Rattle.std.proofs.lemmas.Grind.{reverse_onto}
 use Rattle.jk_io.specs.Memory.{MemLinkState}

@@ -1,4 +1,4 @@
--- What is known of a session over memory, and of what is printed of it, put together.
+-- A session over memory, and the text that is printed of it, put together from their parts.
 use Rattle.std.proofs.Common.{◌≡◌, ℕ, List, [], ◌++◌, Option, Some, None, Result, Ok, Err, IfOk, OnOk, IsSomeAnd, refl, sym, ap, subst, ◌∙◌, append_assoc}
 use Rattle.jk_io.specs.Memory.{MemLinkState}
 use Rattle.jk_io.specs.MemReaches.{MemReachState}

@@ -1,4 +1,4 @@
--- What an entry of the Book means for a script.
+-- The entries of the Book as a script's lines, one line after the other.
 use Rattle.std.proofs.Common.{ℕ, ◌+◌, ◌^◌, ◌≡◌, ◌≤◌, ◌<◌, List, [], ◌∷◌, ◌++◌, length, reverse, refl, sym, ap, ◌∙◌, subst, arith, append_assoc, length-append, inl, inr}
 use Rattle.std.proofs.lemmas.List.{length-reverse, append-nil}
 use Rattle.lb_model.specs.declared.journal.Call.{Call}

@@ -1,4 +1,4 @@
--- What a command says of the faults of what it reads.
+-- The cause of a command's failure: a count of faults that rose in what it reads.
 use Rattle.std.specs.Prelude.{ℕ, ◌≤◌, Result, IsErrOf}
 use Rattle.jk_io.specs.Told.{Rose}
 use Rattle.jk_io.specs.declared.failures.IoError.{IoError}

@@ -1,4 +1,4 @@
--- What `check` prints of a journal's text, and its status.
+-- The output of `check` for a journal's text, and its status.
 use Rattle.std.specs.Prelude.{◌≡◌, ℕ, ◌⊎◌, List, ◌++◌, Ok, Err, codes, decimal}
 use Rattle.journal_text.specs.declared.text_error.TextError.TheVariants as error
 use Rattle.journal_verdict.specs.Told.{verdict_text}

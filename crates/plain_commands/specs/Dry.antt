@@ -1,4 +1,4 @@
--- What `dry` and `log` print: one session over memory. Of them read this first.
+-- The output of `dry` and `log`: one session over memory. Of them read this first.
 use Rattle.std.specs.Prelude.{◌≡◌, ℕ, Bool, false, List, [], ◌∷◌, Some, IsSomeAnd, Result, Ok, Err, codes, reverse}
 use Rattle.request_log.specs.Lines.{log_of}
 use Rattle.request_log.specs.declared.format.Part.{Part}

@@ -1,4 +1,4 @@
--- What a reach keeps, where its first link has a reply to come, and each later one nothing.
+-- A reach over which a session in memory talks: its first link has a reply to come, and each later one nothing.
 use Rattle.std.specs.Prelude.{◌≡◌, List, [], ◌++◌, Option, Some, None, reverse}
 use Rattle.jk_io.specs.Memory.{MemLinkState}
 use Rattle.jk_io.specs.MemReaches.{MemReachState, GivesLink}

@@ -1,4 +1,4 @@
--- What a session over memory starts with.
+-- The start of a session over memory: its desk, its reach and its client before anything was done.
 use Rattle.std.specs.Prelude.{◌≡◌, List, [], None}
 use Rattle.jk_io.specs.Memory.{MemLinkState}
 use Rattle.jk_io.specs.MemReaches.{MemReachState}

@@ -1,4 +1,4 @@
--- What `follow` prints of a journal's text, and its status.
+-- The output of `follow` for a journal's text, and its status.
 use Rattle.std.specs.Prelude.{◌≡◌, ℕ, Bool, true, false, ◌⊎◌, List, [], ◌∷◌, Option, Some, None, codes}
 use Rattle.journal_verdict.specs.Followed.{IsOpened, IsStopped}
 use Rattle.journal_verdict.specs.declared.error.FollowError.{FollowError}

@@ -1,4 +1,4 @@
--- What `log` prints of a format that is refused.
+-- The output of `log` for a format that is refused.
 use Rattle.std.specs.Prelude.{◌≡◌, ℕ, List}
 use Rattle.request_log.specs.Formats.{IsRefusedFrom, refusal_line}
 

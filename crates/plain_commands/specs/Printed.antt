@@ -1,4 +1,4 @@
--- What is printed of a report, and of a session over its site.
+-- The output for a report, and for a session over its site.
 use Rattle.std.specs.Prelude.{◌≡◌, ℕ, List, [], ◌∷◌, Option, Some, None, Result, Ok}
 use Rattle.jk_io.specs.declared.failures.NoMemory.{NoMemory}
 use Rattle.site_reports.specs.Readings.{File}

@@ -1,4 +1,4 @@
--- What a line of a script does with the Book.
+-- The Book of a script, before and after a line.
 use Rattle.std.specs.Prelude.{◌≡◌, ℕ, ◌+◌, ◌<◌, ◌≤◌, max, ◌⊎◌, false, List, [], ◌∷◌, ◌++◌, length, Some}
 use Rattle.std.specs.Bool.{MatchBool}
 use Rattle.lb_book.specs.Journal.{Journal, IsSound, past_of}

@@ -1,4 +1,4 @@
--- What lines print, from one line on to the next.
+-- The output of a script's lines, from one line on to the next.
 use Rattle.std.proofs.Common.{ℕ, ◌+◌, ◌≡◌, ◌++◌, Bool, true, false, List, [], ◌∷◌, Option, Some, None, sym, subst, inl, inr, refl}
 use Rattle.std.specs.Bool.{MatchBool}
 use Rattle.std.specs.Option.{MatchOption}

@@ -1,4 +1,4 @@
--- What a script prints, line by line, and the status with which `play` ends.
+-- The output of a script, line by line, and the status with which `play` ends.
 -- Everywhere `p` is the past: the entries so far, the newest first; `at` is the moment, and `number` that of the line.
 use Rattle.std.specs.Prelude.{◌≡◌, ℕ, ◌+◌, ◌^◌, ◌<◌, ◌≤◌, ◌==◌, max, Bool, true, false, ◌⊎◌, List, [], ◌∷◌, ◌++◌, Option, Some, None}
 use Rattle.std.specs.Bool.{MatchBool}

@@ -1,4 +1,4 @@
--- What single words say: numbers, letters, and words KEY=VALUE.
+-- Single words, read: numbers, letters, and words KEY=VALUE.
 use Rattle.std.specs.Prelude.{ℕ, Bool, true, false, ◌==◌, ◌||◌, nat_le, nat_eq, List, [], ◌∷◌, length, drop, Option, Some, None, codes, if◌then◌else◌, option_and_then}
 use Rattle.std.specs.List.{starts_with}
 use Rattle.std.specs.Str.{bytes_eq}

@@ -1,4 +1,4 @@
--- What a line of the balancer says, without where its names lie in memory.
+-- A line of the balancer in words, without where its names lie in memory.
 use Rattle.std.specs.Prelude.{ℕ, List}
 use Rattle.std.specs.Option.{option_copied}
 use Rattle.play_script.specs.declared.head.MemberLine.{MemberLine}

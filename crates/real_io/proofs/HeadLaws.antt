@@ -1,4 +1,4 @@
--- What is said of a value that isn't there.
+-- A fact that is told where a value isn't there, weakened.
 use Rattle.std.specs.Prelude.{Option, Some, None, IfNone}
 
 pub IfNone-map : {T : Type 0} {P Q : Type 0} (o : Option T) → (P → Q) → IfNone o P → IfNone o Q

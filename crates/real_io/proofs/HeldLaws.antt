@@ -1,4 +1,4 @@
--- What was put stays whole, however much of it went out.
+-- The bytes that were put stay whole, however many of them went out.
 use Rattle.std.proofs.Common.{◌≡◌, ℕ, ◌+◌, ◌-◌, ◌≤◌, List, [], ◌++◌, length, take, drop, Option, sym, ap, ◌∙◌, arith, drop-drop, take_all, length-drop}
 use Rattle.std.proofs.lemmas.List.{take-append-drop}
 use Rattle.jk_io.specs.Told.{appended}

@@ -1,4 +1,4 @@
--- What is held back before a client's end: what went out, and after it what is held, is always what was put, in order.
+-- Bytes held back before a client's end: those that went out, and then the held ones, are all that were put, in order.
 use Rattle.std.specs.Prelude.{◌≡◌, ℕ, List, Option, Some, None}
 use Rattle.jk_io.specs.Told.{appended}
 

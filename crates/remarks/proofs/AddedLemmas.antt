@@ -1,4 +1,4 @@
--- What is added, part after part.
+-- Texts that are added, part after part.
 use Rattle.std.proofs.Common.{◌≡◌, ℕ, List, [], ◌++◌, Option, Result, Ok, Err, IsErrAnd, IsOk, OnOk, OnErr, refl, sym, ap, ◌∙◌, subst, inr}
 use Rattle.jk_io.specs.Told.{HasCause, appended, PutsFront}
 use Rattle.jk_io.specs.declared.failures.IoError.{IoError}

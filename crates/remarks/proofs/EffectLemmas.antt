@@ -1,4 +1,4 @@
--- What in a site's files has no effect, by what the map reads as.
+-- Lines of a site's files that have no effect, by what the map reads as.
 use Rattle.std.proofs.Common.{◌≡◌, ℕ, ◌-◌, ◌≤◌, ◌++◌, true, List, [], ◌∷◌, Option, Some, None, Result, Ok, Err, IsErr, IsOk, inl, inr, length, take, drop, get_or, arith, refl, sym, subst, ◌∙◌, ap}
 use Rattle.std.proofs.lemmas.List.{take_all}
 use Rattle.site_config.specs.Properties as properties

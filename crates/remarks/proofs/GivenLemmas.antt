@@ -1,4 +1,4 @@
--- What a key by which a worker is given a directive makes of its line.
+-- A line whose key gives a worker a directive: whether the last such line alone counts, and the words on it.
 use Rattle.std.proofs.Common.{◌≡◌, ℕ, List, Option, refl}
 use Rattle.site_config.specs.declared.directive.Directive.{Directive}
 use Rattle.site_config.specs.Subjects.{GivesWorker}

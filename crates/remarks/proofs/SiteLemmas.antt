@@ -1,4 +1,4 @@
--- What is told of a site, by the first of the files that were read and those after it.
+-- The remarks on a site, by the first of the files that were read and those after it.
 use Rattle.std.proofs.Common.{◌≡◌, ℕ, ◌-◌, ◌≤◌, Bool, List, [], ◌∷◌, Option, Some, Result, Ok, Err, inl, inr, length, take, drop, get_or, arith, sym, subst, ◌∙◌, ap}
 use Rattle.std.proofs.lemmas.List.{take_all}
 use Rattle.remarks.specs.declared.read_file.ReadFile.{ReadFile}

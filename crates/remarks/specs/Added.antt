@@ -1,4 +1,4 @@
--- What is added to what was said, also where a write fails. Where it is untold each equation here says nothing.
+-- A text added to what was said, or after a failed write a front of it. Where it is untold each equation here says nothing.
 use Rattle.std.specs.Prelude.{◌≡◌, ℕ, List, ◌⊎◌, Option, Result, Ok, Err, IsOk}
 use Rattle.jk_io.specs.Told.{HasCause, appended}
 use Rattle.jk_io.specs.declared.failures.IoError.{IoError}

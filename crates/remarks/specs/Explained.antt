@@ -1,4 +1,4 @@
--- What is said of a refused line: in words what is wrong with it, and the line as it stands.
+-- The words on a refused line: its mistake, and the line as it stands.
 use Rattle.std.specs.Prelude.{ℕ, ◌-◌, List, [], ◌++◌, codes, decimal, slice_get, unwrap_or, if◌then◌else◌, ◌==◌}
 use Rattle.site_config.specs.Lines.{lines, without_mark}
 use Rattle.site_config.specs.Refusals.{LineRefusal}

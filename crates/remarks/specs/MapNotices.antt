@@ -1,5 +1,5 @@
--- What in a uriworkermap.properties has no effect: what follows the worker of an exclusion or a worker of type status,
--- and parts of other names than a rule's. And what a map without a rule means.
+-- Notices on a uriworkermap.properties: of what has no effect after the worker of an exclusion or a worker of type status,
+-- and of parts of other names than a rule's. And the notice on a map without a rule.
 use Rattle.std.specs.Prelude.{ℕ, ◌+◌, Bool, true, false, List, [], ◌∷◌, ◌++◌, Option, Some, None, codes, if◌then◌else◌, ◌||◌, ◌&&◌}
 use Rattle.std.specs.Bool.{nat_eq}
 use Rattle.std.specs.List.{flat_map, list_all}

@@ -1,4 +1,4 @@
--- What a site of mod_jk would expect to have effect and hasn't: a line for each such line of a workers.properties.
+-- Notices on a workers.properties: of each line of which a site of mod_jk would expect an effect, and which has none.
 use Rattle.std.specs.Prelude.{ℕ, Bool, true, false, List, [], ◌∷◌, ◌++◌, Option, Some, None, codes, is_some, map, slice_get, if◌then◌else◌, ◌||◌, ◌==◌}
 use Rattle.std.specs.Bool.{nat_eq}
 use Rattle.std.specs.List.{flat_map, list_any, starts_with}

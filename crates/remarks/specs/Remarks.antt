@@ -1,6 +1,6 @@
--- What a person reads of a site's files on standard error: of each line that is refused the line as it stands and what is
--- wrong with it, and of files that are accepted, where it is asked for, what has no effect, and that a map has no rule. A file
--- is its name and its text.
+-- The remarks on a site's files that a person reads on standard error: each line that is refused as it stands, with its
+-- mistake, and of files that are accepted, where it is asked for, what has no effect, and that a map has no rule. A file is its
+-- name and its text.
 use Rattle.std.specs.Prelude.{◌≡◌, ◌≤◌, ℕ, Bool, true, false, List, [], ◌++◌, ◌⊎◌, Option, Some, None, IfSome, Result, Ok, Err, IsErr, IsOk, length}
 use Rattle.std.specs.Option.{option_map}
 use Rattle.site_config.specs.Properties as properties

@@ -1,4 +1,4 @@
--- What is kept of what a command read.
+-- The files that a command read, and its input, as they are kept.
 use Rattle.std.specs.Prelude.{◌≡◌, ℕ, ◌+◌, Bool, true, false, min, ◌⊎◌, List, [], ◌∷◌, ◌++◌, Option, Some, None, Result, Ok, Err}
 use Rattle.jk_io.specs.declared.failures.FileError.{FileError}
 use Rattle.jk_io.specs.declared.failures.FileError.TheVariants as errors

@@ -1,4 +1,4 @@
--- What is said of a command that ended, by its status and what it read.
+-- The remarks on a command that ended, by its status and what it read.
 use Rattle.std.specs.Prelude.{◌≡◌, ℕ, ◌-◌, Bool, true, false, List, [], ◌∷◌, ◌++◌, Option, Some, None, codes, drop, length, slice_get, nat_lt, if◌then◌else◌, ◌&&◌, not}
 use Rattle.std.specs.Option.{is_none, option_map}
 use Rattle.jk_cli.specs.declared.name.CommandName.{CommandName}

@@ -1,4 +1,4 @@
--- What the value of a line must be, by the directive that its key gives.
+-- The values that a line may have, in words, by the directive that its key gives.
 use Rattle.std.specs.Prelude.{ℕ, List, [], Option, Some, None, codes, if◌then◌else◌}
 use Rattle.std.specs.Str.{bytes_eq}
 use Rattle.jk_io.specs.Decimals.{trimmed}

@@ -1,4 +1,4 @@
-//! What in a site's two files has no effect, where both are accepted.
+//! Remarks on the lines of a site's two files that have no effect, where both are accepted.
 ghost use Rattle.std.specs.Prelude.{Ok};
 ghost use Rattle.site_mounts.specs.Lines.{read_text};
 ghost use Rattle.remarks.specs.Added.{AddsFor, AddsSome};

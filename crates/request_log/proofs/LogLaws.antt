@@ -1,4 +1,4 @@
--- What a log that is written row by row gains at one row.
+-- A log that is written row by row, after one row: a line more, or a front of one, and then it is broken.
 use Rattle.std.proofs.Common.{◌≡◌, [], ◌∷◌, Option, Some, None, Ok, Err, false, true≢false, refl, sym, ap, ◌∙◌}
 use Rattle.std.proofs.lemmas.List.{append-nil}
 use Rattle.std.specs.Option.{is_some as has_some}

@@ -1,4 +1,4 @@
--- What a log that is written row by row gains.
+-- A log that is written row by row: its format, its address, its sink, what broke it, and the lines that rows add.
 use Rattle.std.specs.Prelude.{ℕ, ◌≡◌, ◌⊎◌, ◌≤◌, List, [], ◌++◌, Option, Some, None, IsSome}
 use Rattle.jk_io.specs.Told.{appended, Rose}
 use Rattle.jk_io.specs.declared.failures.IoError.{IoError}

@@ -1,4 +1,4 @@
--- What the session of a row starts with.
+-- The desk with which the session of a row starts.
 use Rattle.std.specs.Prelude.{◌≡◌, List, None}
 use Rattle.lb_book.specs.Desks.{DeskState}
 use Rattle.exchange.specs.Requests.{sizes_of}

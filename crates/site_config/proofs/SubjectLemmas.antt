@@ -1,4 +1,4 @@
--- What follows of a line from that of which its key speaks.
+-- A line by the subject of its key: the list of workers, the maintenance, a worker's directive, or nothing.
 use Rattle.std.proofs.Common.{◌≡◌, ◌≢◌, Bool, true, false, List, ℕ, Option, Some, None, Bor, refl, sym, ◌∙◌, ap, cond, eqb, eqb-true, eq-eqb}
 use Rattle.std.proofs.lemmas.Bool.{false_from_ne_true, false≢true}
 use Rattle.std.proofs.lemmas.Option.{none-some, same_Some}

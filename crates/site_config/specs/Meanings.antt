@@ -1,4 +1,4 @@
--- What a value means to the directive that it is given to: each directive's range stands here.
+-- The meaning of a value for the directive that it is given to: each directive's range stands here.
 use Rattle.std.specs.Prelude.{ℕ, Bool, false, List, Option, Some, None, if◌then◌else◌, length, nat_lt}
 use Rattle.std.specs.Option.{is_some, option_map}
 use Rattle.std.specs.Str.{bytes_eq}

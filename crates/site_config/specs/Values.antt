@@ -1,4 +1,4 @@
--- What the value of a directive means.
+-- The values of directives: numbers, truth values, letters, types, lists of statuses, and references.
 use Rattle.std.specs.Prelude.{ℕ, ◌+◌, Bool, true, false, List, [], ◌∷◌, ◌++◌, Option, Some, None, if◌then◌else◌, ◌==◌, ◌||◌, ◌&&◌, nat_le, length, map, codes, not}
 use mathlib.Core.Bool.{beq}
 use Rattle.std.specs.Option.{option_map}

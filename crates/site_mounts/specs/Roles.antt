@@ -1,4 +1,4 @@
--- What a rule does: it mounts paths at a worker, or takes them away from one.
+-- The roles of a rule: it mounts paths at a worker, or takes them away from one.
 use Rattle.std.specs.Prelude.{Bool, true, false, Option, Some, None, ◌==◌}
 use Rattle.site_config.specs.declared.config.Named.{Named}
 use Rattle.site_config.specs.declared.config.Named.TheVariants as named

@@ -1,4 +1,4 @@
--- What listed names stand for, kept in a map.
+-- A map of listed names, which finds what each of them stands for.
 use Rattle.std.specs.Prelude.{◌≡◌, ℕ, List}
 use Rattle.std.specs.Str.{bytes_eq}
 use Rattle.std.specs.HashMap.{HashMap, get_by}

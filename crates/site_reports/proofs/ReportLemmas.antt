@@ -1,4 +1,4 @@
--- What is printed of an accepted workers.properties.
+-- The report of an accepted workers.properties.
 use Rattle.std.proofs.Common.{ℕ, List, Bool, Result, Ok, Err, IfOk, inr}
 use Rattle.site_config.specs.declared.config.Config.{Config}
 use Rattle.site_workers.specs.Site.{IsConfig}

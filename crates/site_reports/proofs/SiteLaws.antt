@@ -1,4 +1,4 @@
--- What a site's files are judged to be.
+-- A site's files, judged: both are read whole, or one of them is too long.
 use Rattle.std.proofs.Common.{ℕ, ◌≡◌, true, List, ◌++◌, Ok, Err, IfOk, Result, codes, inl, inr, refl, sym, subst}
 use Rattle.site_reports.specs.Readings.{CommandOutside, File, IsLong, IsRead}
 use Rattle.site_config.specs.Refusals.{LineRefusal}

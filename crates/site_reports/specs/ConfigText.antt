@@ -1,4 +1,4 @@
--- What `config` prints of a configuration: the listed workers in order, each balancer with its members, the time
+-- The output of `config` for a configuration: the listed workers in order, each balancer with its members, the time
 -- between two maintenances, and the keys that have no effect.
 use Rattle.std.specs.Prelude.{ℕ, Bool, true, false, List, [], ◌∷◌, ◌++◌, Option, Some, None, codes, decimal, slice_get, map, filter, if◌then◌else◌}
 use Rattle.std.specs.List.{flat_map, zip}

@@ -1,4 +1,4 @@
--- What `match` prints: each line is a raw path, maybe with a query, and is answered with the worker at which its clean path
+-- The output of `match`: each line is a raw path, maybe with a query, and is answered with the worker at which its clean path
 -- is mounted, and, where that is asked for, with the line of the map that decides about it.
 use Rattle.std.specs.Prelude.{ℕ, Bool, List, [], ◌∷◌, ◌++◌, Option, Some, None, codes, decimal, slice_get, if◌then◌else◌}
 use Rattle.std.specs.List.{flat_map}

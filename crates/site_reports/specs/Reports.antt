@@ -1,4 +1,4 @@
--- What `config` and `match` print of the texts of a site's files, and whether one of these is refused; and which line refuses
+-- The reports of `config` and `match` on the texts of a site's files, whether one of these is refused, and the line that refuses
 -- the files themselves.
 use Rattle.std.specs.Prelude.{◌≡◌, ℕ, Bool, true, false, List, [], ◌∷◌, ◌++◌, ◌⊎◌, Result, Ok, Err, codes, decimal}
 use Rattle.site_config.specs.Refusals.{LineRefusal}

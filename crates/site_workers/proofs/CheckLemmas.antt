@@ -1,4 +1,4 @@
--- What holds of each listed worker, and a loop that checks them one after another.
+-- Listed workers that are checked one after another, in a loop that stops at the first bad one.
 use Rattle.std.proofs.Common.{ℕ, ◌+◌, ◌<◌, ◌≤◌, List, [], ◌∷◌, length, get_or, drop, suc, zero, ◌≡◌, Option, arith, sym, refl, subst, inl, inr}
 use Rattle.std.proofs.lemmas.List.{drop_all, drop_more}
 use Rattle.site_config.specs.declared.directive.Directive.{Directive}

@@ -1,4 +1,4 @@
--- What a configuration that is being made keeps: at most 1,024 balancers, and names that stand for what is there.
+-- A configuration that is being made: at most 1,024 balancers, and names that stand for what is there.
 use Rattle.std.proofs.Common.{◌≡◌, ℕ, ◌+◌, ◌<◌, ◌≤◌, true, List, [], ◌∷◌, ◌++◌, length, refl, sym, subst, arith, lit≤, nat_lt, Option, length-append}
 use Rattle.std.proofs.lemmas.Bool.{and_parts}
 use Rattle.site_config.specs.declared.property.Property.{Property}

@@ -1,4 +1,4 @@
--- What a key by which a worker is given a directive makes of its line.
+-- A line whose key gives a worker a directive: it tells something of workers, and has an effect where that is built.
 use Rattle.std.proofs.Common.{◌≡◌, ℕ, true, List, Option, refl}
 use Rattle.std.specs.Option.{is_some}
 use Rattle.site_config.specs.declared.directive.Directive.{Directive}

@@ -1,4 +1,4 @@
--- What an lb worker's members pass, and what is made of them.
+-- The members of an lb worker, looked at one by one, and the balancer that is made of them.
 use Rattle.std.proofs.Common.{◌≡◌, ◌≤◌, ℕ, Bool, true, false, List, length, map, Option, Result, Ok, Err, IfOk, IfErr, OnErr, codes, sym, ◌∙◌, subst, inl, inr, ⊎_elim}
 use Rattle.lb_model.specs.Ranges.{AreInRange, IsPeriod, IsRefused}
 use Rattle.lb_model.specs.declared.config.LbConfig.{LbConfig}

@@ -1,4 +1,4 @@
--- What a line says of a directive whose values are numbers is within the directive's range.
+-- The number that a line gives a directive, or its default, is within the directive's range.
 use Rattle.std.proofs.Common.{◌≡◌, ℕ, ◌≤◌, Bool, true, false, List, Option, Some, None, refl, sym, cond, arith, nat_le, ◌&&◌}
 use Rattle.std.proofs.lemmas.Bool.{and_parts}
 use Rattle.std.specs.Option.{option_map, unwrap_or}

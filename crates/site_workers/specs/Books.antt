@@ -1,4 +1,4 @@
--- What an lb worker makes of its members, without a look at the lines that name them.
+-- The book of an lb worker, made of its members without a look at the lines that name them.
 use Rattle.std.specs.Prelude.{◌≡◌, ℕ, ◌≤◌, ◌<◌, ◌^◌, true, false, List, Option, ◌⊎◌, length, codes, map}
 use Rattle.lb_model.specs.Limits.{most_balancers, most_members}
 use Rattle.lb_model.specs.Multiple.{multiple_of}

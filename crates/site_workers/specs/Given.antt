@@ -1,4 +1,4 @@
--- What the lines of a workers.properties give a worker: of each directive the last line, and where there is none, the
+-- The directives that the lines of a workers.properties give a worker: of each the last line, and where there is none, the
 -- line that holds for the worker that its reference names.
 use Rattle.std.specs.Prelude.{◌≡◌, ℕ, Bool, true, false, List, [], ◌∷◌, Option, Some, None, if◌then◌else◌, ◌&&◌, unwrap_or}
 use Rattle.std.specs.List.{list_any}

@@ -1,4 +1,4 @@
--- What the directives in force make of a worker.
+-- The settings of a worker: the values of the directives in force, or their defaults.
 use Rattle.std.specs.Prelude.{◌≡◌, ℕ, ◌+◌, Bool, false, List, [], ◌∷◌, Option, Some, None, if◌then◌else◌, ◌==◌, ◌&&◌, ◌||◌, not, unwrap_or, length, codes, nat_lt}
 use Rattle.std.specs.Option.{is_some, option_and_then}
 use Rattle.std.specs.Str.{bytes_eq}

@@ -1,4 +1,4 @@
--- What a query asks for, from the command that it means.
+-- The work of a query, from the command that it means.
 use Rattle.std.proofs.Common.{◌≡◌, ◌<◌, ℕ, Bool, true, false, List, Option, Some, None, refl, sym, subst, inl, inr, IfSome, IfOk, IfErr, Result, Ok, Err, length, ◌&&◌, ◌⊎◌}
 use Rattle.std.proofs.lemmas.Bool.{and_parts}
 use Rattle.std.proofs.lemmas.Option.{slice_get_within}

@@ -1,4 +1,4 @@
--- What a desk keeps over several calls, and the receipts that they add.
+-- A desk over several calls of a status worker: the state that it keeps, and the receipts that it gains.
 use Rattle.std.proofs.Common.{◌≡◌, ℕ, List, [], ◌∷◌, ◌++◌, Result, Option, Some, None, refl, sym, ap, ◌∙◌, arith}
 use Rattle.std.proofs.lemmas.List.{append_assoc, append-nil, length-append}
 use Rattle.std.proofs.lemmas.List.Elements.{All-append, All-nil}

@@ -1,4 +1,4 @@
--- What the fields of a query mean is what the table of commands says.
+-- The command of a query's fields is the one that the table of commands gives.
 use Rattle.std.proofs.Common.{ℕ, ◌≤◌, ◌≡◌, Bool, true, false, cond, ◌&&◌, List, [], ◌∷◌, length, Option, Some, None, refl, sym, ap, subst, ◌∙◌, ⊎_elim, codes, arith}
 use Rattle.std.specs.List.{count_by, filter}
 use Rattle.std.specs.Option.{option_map, option_to_list}

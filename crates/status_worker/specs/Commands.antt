@@ -1,4 +1,4 @@
--- What a status worker's request asks of the desk.
+-- The commands that a status worker's request asks of the desk, or why it asks none, and how they are done.
 use Rattle.std.specs.Prelude.{ℕ, ◌≡◌, ◌⊎◌, Bool, true, false, List, [], ◌∷◌, ◌++◌, Option, Some, None, slice_get}
 use Rattle.jk_io.specs.Answers.{Answers}
 use Rattle.lb_model.specs.declared.change.Command.{Command}

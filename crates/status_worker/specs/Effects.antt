@@ -1,4 +1,4 @@
--- What a command is about, and whether it changes something.
+-- A command's balancer, and whether the command changes something.
 use Rattle.std.specs.Prelude.{ℕ, Bool, true, false, List, Option, Some}
 use Rattle.status_worker.specs.declared.command.StatusCommand.{StatusCommand}
 use Rattle.status_worker.specs.declared.command.StatusCommand.TheVariants as command

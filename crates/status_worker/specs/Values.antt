@@ -1,4 +1,4 @@
--- What the values of an update mean.
+-- The values of an update, read.
 use Rattle.std.specs.Prelude.{ℕ, Bool, ◌==◌, ◌||◌, nat_le, nat_lt, List, [], ◌∷◌, length, Option, Some, None, is_some, if◌then◌else◌}
 use Rattle.std.specs.Option.{option_map, option_and_then}
 use Rattle.jk_io.specs.Decimals.{decimal_of}

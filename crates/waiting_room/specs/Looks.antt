@@ -1,4 +1,4 @@
--- What a look at a client keeps: the bytes that came of it before stand in front of those that come now.
+-- A look at a client: the bytes that came of it before stand in front of those that come now.
 use Rattle.std.specs.Prelude.{◌≡◌, ℕ, ◌≤◌, List, Option, Some, None, length, take}
 use Rattle.waiting_room.specs.declared.door.Look.{Look}
 use Rattle.waiting_room.specs.declared.door.Look.TheVariants.{Ready, Part, Gone}

@@ -1,4 +1,4 @@
--- What was put at the end is what the read gave, under the file's name.
+-- The kept file at the end is that of the read, under its name.
 use Rattle.std.proofs.Common.{◌∙◌, refl}
 use Rattle.remarks.proofs.RoomLemmas.{last_put}
 use Rattle.remarks.proofs.kept_files.keep.Goals as goal

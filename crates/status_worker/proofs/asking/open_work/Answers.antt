@@ -1,4 +1,4 @@
--- What the command asks for is what the query asks for.
+-- The work of the command is that of the query.
 use Rattle.status_worker.proofs.AskLaws.{asks, refused}
 use Rattle.status_worker.proofs.asking.open_work.Goals as goal
 
