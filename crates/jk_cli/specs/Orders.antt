@@ -9,6 +9,7 @@ use Rattle.jk_cli.specs.declared.order.ServeOrder.{ServeOrder}
 use Rattle.jk_cli.specs.declared.order.Order.TheVariants.{Play, Dry, Config, Match, Check, Log, Follow, Drill, Serve, Container, Stop, Demo}
 use Rattle.jk_cli.specs.declared.name.CommandName.{CommandName}
 use Rattle.jk_cli.specs.declared.name.CommandName.TheVariants as name
+use Rattle.jk_cli.specs.Ranges.{most_requests, most_route_bytes, most_threads}
 use Rattle.jk_cli.specs.Parts.{Part, flag_in, option_in, parts_of, places_in}
 use Rattle.jk_cli.specs.Names.{name_of, may_stand, command_in}
 
@@ -35,11 +36,11 @@ number_or name least most default parts = option_map (λ given. unwrap_or given 
 
 -- 1 to 64
 abbrev pub threads_of : List ℕ → Option ℕ
-threads_of text = number_in 1 64 text
+threads_of text = number_in 1 most_threads text
 
 -- 1 to 1,000,000
 abbrev pub requests_of : List ℕ → Option ℕ
-requests_of text = number_in 1 1000000 text
+requests_of text = number_in 1 most_requests text
 
 -- any number of 64 bits
 abbrev pub clients_of : List Part → Option (Option ℕ)
@@ -194,7 +195,7 @@ abbrev pub container_of : List Part → List (List ℕ) → Option Order
 container_of parts (route ∷ address ∷ threads ∷ []) =
     threads_of threads >>= λ count.
     clients_of parts >>= λ clients.
-    if nat_le (length route) 1024 then Some (Container route address count clients) else None
+    if nat_le (length route) most_route_bytes then Some (Container route address count clients) else None
 container_of parts places = None
 
 -- stop PATH

@@ -1,6 +1,6 @@
 //! The words of a command that have a range, each of a type that keeps it.
 ghost use Rattle.std.specs.Prelude.{◌≡◌, ◌≤◌, IfOk, None, Some, if◌then◌else◌, length, nat_le};
-ghost use Rattle.jk_cli.specs.declared.ranges.TheConstants.{MOST_REQUESTS, MOST_ROUTE_BYTES, MOST_THREADS};
+ghost use Rattle.jk_cli.specs.Ranges.{most_requests, most_route_bytes, most_threads};
 
 use jk_io::{Bytes, NoMemory};
 use std::alloc::Global;
@@ -23,7 +23,7 @@ pub struct ThreadCount {
 
 impl Model for ThreadCount {
     ghost use Rattle.std.specs.Prelude.{ℕ, ◌≤◌};
-    ghost use Rattle.jk_cli.specs.declared.ranges.TheConstants.{MOST_THREADS};
+    ghost use Rattle.jk_cli.specs.Ranges.{most_threads};
 
     ghost Value = { ℕ };
 
@@ -31,12 +31,12 @@ impl Model for ThreadCount {
 
     ghost inverse = { λ n. record { count = n } };
 
-    ghost invariant = { λ t. (1 ≤ t.count) × (t.count ≤ MOST_THREADS) };
+    ghost invariant = { λ t. (1 ≤ t.count) × (t.count ≤ most_threads) };
 }
 
 impl ThreadCount {
     pub fn new(count: u32) -> ThreadCount
-        requires { (1 ≤ count) × (count ≤ MOST_THREADS) }
+        requires { (1 ≤ count) × (count ≤ most_threads) }
         ensures { result ≡ count }
     {
         ThreadCount { count }
@@ -45,7 +45,7 @@ impl ThreadCount {
     /// The number.
     pub fn get(&self) -> u32
         ensures value { result ≡ self.now }
-        ensures range { (1 ≤ result) × (result ≤ MOST_THREADS) }
+        ensures range { (1 ≤ result) × (result ≤ most_threads) }
     {
         self.count
     }
@@ -59,7 +59,7 @@ pub struct DrillRequests {
 
 impl Model for DrillRequests {
     ghost use Rattle.std.specs.Prelude.{ℕ, ◌≤◌};
-    ghost use Rattle.jk_cli.specs.declared.ranges.TheConstants.{MOST_REQUESTS};
+    ghost use Rattle.jk_cli.specs.Ranges.{most_requests};
 
     ghost Value = { ℕ };
 
@@ -67,12 +67,12 @@ impl Model for DrillRequests {
 
     ghost inverse = { λ n. record { count = n } };
 
-    ghost invariant = { λ r. (1 ≤ r.count) × (r.count ≤ MOST_REQUESTS) };
+    ghost invariant = { λ r. (1 ≤ r.count) × (r.count ≤ most_requests) };
 }
 
 impl DrillRequests {
     pub fn new(count: u32) -> DrillRequests
-        requires { (1 ≤ count) × (count ≤ MOST_REQUESTS) }
+        requires { (1 ≤ count) × (count ≤ most_requests) }
         ensures { result ≡ count }
     {
         DrillRequests { count }
@@ -81,7 +81,7 @@ impl DrillRequests {
     /// The number.
     pub fn get(&self) -> u32
         ensures value { result ≡ self.now }
-        ensures range { (1 ≤ result) × (result ≤ MOST_REQUESTS) }
+        ensures range { (1 ≤ result) × (result ≤ most_requests) }
     {
         self.count
     }
@@ -95,19 +95,19 @@ pub(crate) struct RouteWord<'a> {
 
 impl<'a> Model for RouteWord<'a> {
     ghost use Rattle.std.specs.Prelude.{List, ℕ, length, ◌≤◌};
-    ghost use Rattle.jk_cli.specs.declared.ranges.TheConstants.{MOST_ROUTE_BYTES};
+    ghost use Rattle.jk_cli.specs.Ranges.{most_route_bytes};
 
     ghost Value = { List ℕ };
 
     ghost view = { λ r. r.text.now };
 
-    ghost invariant = { λ r. length r.text.now ≤ MOST_ROUTE_BYTES };
+    ghost invariant = { λ r. length r.text.now ≤ most_route_bytes };
 }
 
 impl<'a> RouteWord<'a> {
     /// The word, where it isn't too long.
     pub fn of(text: &'a [u8]) -> Option<RouteWord<'a>>
-        ensures { result ≡ (if nat_le (length text.now) MOST_ROUTE_BYTES then Some text.now else None) }
+        ensures { result ≡ (if nat_le (length text.now) most_route_bytes then Some text.now else None) }
     {
         if text.len() <= MOST_ROUTE_BYTES {
             Some(RouteWord { text })
@@ -134,18 +134,18 @@ pub struct ContainerRoute {
 
 impl Model for ContainerRoute {
     ghost use Rattle.std.specs.Prelude.{List, ℕ, length, ◌≤◌};
-    ghost use Rattle.jk_cli.specs.declared.ranges.TheConstants.{MOST_ROUTE_BYTES};
+    ghost use Rattle.jk_cli.specs.Ranges.{most_route_bytes};
 
     ghost Value = { List ℕ };
 
     ghost view = { λ r. r.text };
 
-    ghost invariant = { λ r. length r.text ≤ MOST_ROUTE_BYTES };
+    ghost invariant = { λ r. length r.text ≤ most_route_bytes };
 }
 
 impl ContainerRoute {
     pub fn new(text: Bytes) -> ContainerRoute
-        requires { length text ≤ MOST_ROUTE_BYTES }
+        requires { length text ≤ most_route_bytes }
         ensures { result ≡ text }
     {
         ContainerRoute { text }
@@ -154,7 +154,7 @@ impl ContainerRoute {
     /// Its bytes.
     pub fn text(&self) -> &Bytes
         ensures value { result.now ≡ self.now }
-        ensures short { length result.now ≤ MOST_ROUTE_BYTES }
+        ensures short { length result.now ≤ most_route_bytes }
     {
         &self.text
     }
