@@ -610,6 +610,59 @@ def waiting():
                words="awaits", desk="next 2 w1 ok client Client")
 
 
+def own_answers():
+    """A session for each own answer that comes after its mount was found: how to make its row, the rows of the requests before it, and its name."""
+    def of(status, make):
+        def made(**more):
+            row = make(**more)
+            row.answer = status
+            return row
+        return made
+
+    large = request(headers=(("Host", "localhost"), ("X", "x" * 8200)))
+    strict = ONE + "worker.w1.recovery_options=1\n"
+    down = sized(b"hi", 503, "Down")
+    forced = request(headers=HOST + (("Cookie", "JSESSIONID=x.a"),))
+
+    def bad_line(**more):
+        row = dict(ends=own_end(0, 400), gets=own(400), rows=["POST / 400 16 -"], kept=False)
+        row.update(more)
+        return posted("", CHUNKED, BROKEN, ask(8186), b"", **row)
+
+    def too_large(**more):
+        return Row("", large, [], **{**dict(ends=own_end(0, 413), gets=own(413), rows=["GET / 413 22 -"], desk="next 2 w1 ok"), **more})
+
+    def broken(**more):
+        return done("", **{**dict(ends=own_end(0, 502), links=[b"AA\0\1"], talks=[(0, forward(), False)], gets=own(502), rows=["GET / 502 16 -"], workers=strict), **more})
+
+    def listed(**more):
+        site = members("a", "b", options=2, more="worker.a.fail_on_status=503\n")
+        row = dict(ends=own_end(0, 503), gets=own(503), rows=["GET / 503 24 -"], desk="next 2 a error b ok")
+        return Row("", GET, [down, HI], talks=[on(0, kept=False)], workers=site, map_=LB, **{**row, **more})
+
+    def nobody(**more):
+        row = dict(ends=own_end(0, 503), gets=own(503), rows=["GET / 503 24 -"], desk="next 1 a ok b ok")
+        return Row("", GET, [], workers=members("a", "b"), map_="/*=lb;stopped=a,b\n", **{**row, **more})
+
+    def must_stay(**more):
+        site = members("a", "b", more="worker.lb.sticky_session_force=true\n")
+        row = dict(ends=own_end(1, 500), gets=reply() + own(500), rows=["GET / 200 2 b", "GET / 500 26 -"], desk="next 5 a error b ok")
+        return Row("", GET + forced, [b"", HI], talks=[on(0, kept=False), on(1)], workers=site, map_=LB, **{**row, **more})
+
+    def full(**more):
+        row = dict(ends=own_end(1, 500), client=GET * 2, gets=reply() + own(500), rows=["GET / 200 2 w1", "GET / 500 26 -"],
+                   desk="next 281474976710656 w1 ok", words="first=281474976710654")
+        return done("", **{**row, **more})
+
+    yield of(400, bad_line), [], "400 for a bad chunk line"
+    yield of(413, too_large), [], "413"
+    yield of(502, broken), [], "502"
+    yield of(503, listed), [], "503 for a status that counts as a failure"
+    yield of(503, nobody), [], "503 without a member"
+    yield of(500, must_stay), ["GET / 200 2 b"], "500 for a session that must stay"
+    yield of(500, full), ["GET / 200 2 w1"], "500 of a full journal"
+
+
 def failing():
     yield "a body breaks the grammar of chunks"
     broken = dict(ends=own_end(0, 400), gets=own(400), rows=["POST / 400 16 -"], kept=False)
@@ -650,6 +703,15 @@ def failing():
     yield "a write of an own answer fails after so many bytes"
     for place in (0, 1, len(own(400)) - 1):
         yield Row("", request(headers=()), [], "ClientFault { requests: 0 }", gets=own(400)[:place], desk="next 0 w1 ok", ways=f"write@{place}", faults=1)
+    for twin, kept, what in own_answers():
+        yield f"a write of {what} fails after so many bytes, and its flush"
+        row = twin()
+        requests, before = len(kept), row.gets[:len(row.gets) - len(own(row.answer))]
+        lost = dict(ends=f"ClientFault {{ requests: {requests} }}", rows=kept)
+        for place in (0, 1, len(own(row.answer)) - 1):
+            at = len(before) + place
+            yield twin(gets=row.gets[:at], ways=f"write@{at}", faults=1, **lost)
+        yield twin(words=" ".join([*row.words.replace("-", "").split(), f"unflushed={requests}"]), **lost)
     yield "a write of a page fails after so many bytes"
     for place in (0, 1, len(page(PAGE)) - 1):
         yield Row("", request(path="/jk"), [], "ClientFault { requests: 0 }", gets=page(PAGE)[:place], workers=STATUS + READ_ONLY, map_="/jk=jkstatus\n/*=lb\n",
