@@ -1,4 +1,4 @@
--- The answer was delivered, or its delivery broke off.
+-- The answer to a refused head was delivered, or its delivery broke off.
 use Rattle.std.proofs.Common.{Err, List, ℕ, refl, subst, ◌∙◌}
 use Rattle.exchange.specs.Deliveries.{Delivers}
 use Rattle.client_session.specs.Standings.{Puts, client_at}

@@ -1,4 +1,4 @@
--- The Site's name is the Book's.
+-- The Site's name is the Book's, for desks that are judged over it.
 use Rattle.std.specs.Prelude.{[], ◌∷◌}
 use Rattle.lb_model.specs.Journal.{members}
 use Rattle.lb_book.specs.Journal.{next_number}

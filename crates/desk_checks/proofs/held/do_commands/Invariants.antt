@@ -1,4 +1,4 @@
--- The Book keeps its rules.
+-- The Book keeps its rules with each command.
 use Rattle.std.proofs.Common.{◌≡◌}
 use Rattle.desk_checks.proofs.held.do_commands.Given as goal
 

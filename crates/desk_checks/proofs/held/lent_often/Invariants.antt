@@ -1,4 +1,4 @@
--- The Book keeps its rules.
+-- The Book keeps its rules each time that it is lent.
 use Rattle.std.proofs.Common.{◌≡◌}
 use Rattle.desk_checks.proofs.held.lent_often.Given as goal
 

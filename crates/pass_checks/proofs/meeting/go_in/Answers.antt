@@ -1,4 +1,4 @@
--- The two passes come off the end of their list.
+-- Two passes that go side by side come off the end of their list.
 use Rattle.std.proofs.Common.{rules, ◌≡◌, ◌∙◌, ◌∷◌, [], ◌++◌, sym}
 use Rattle.pass_checks.proofs.NoteLaws.{first_off, second_off}
 use Rattle.pass_checks.proofs.meeting.go_in.Goals as goal

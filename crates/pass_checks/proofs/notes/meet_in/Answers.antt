@@ -1,4 +1,4 @@
--- The two passes come off the end of their list.
+-- Two passes of which notes are met come off the end of their list.
 use Rattle.std.proofs.Common.{rules, ◌≡◌, ◌∙◌, ◌∷◌, [], ◌++◌, sym}
 use Rattle.pass_checks.proofs.NoteLaws.{first_off, second_off}
 use Rattle.pass_checks.proofs.notes.meet_in.Goals as goal

@@ -1,4 +1,4 @@
--- Where the two passes belong: what the first one knows.
+-- Where two passes that leave a Book belong: the first one knows.
 use Rattle.lb_passes.specs.Placed.{origin_in, table_in_passes}
 use Rattle.pass_checks.proofs.notes.tell_kept.Given as goal
 

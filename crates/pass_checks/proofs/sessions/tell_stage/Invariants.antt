@@ -1,4 +1,4 @@
--- Where the two passes belong: what the first one knows.
+-- Where two passes with a session each belong: the first one knows.
 use Rattle.lb_passes.specs.Placed.{origin_in, table_in_passes}
 use Rattle.pass_checks.proofs.sessions.tell_stage.Given as goal
 

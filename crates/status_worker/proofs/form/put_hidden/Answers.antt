@@ -1,4 +1,4 @@
--- Five pieces, one after the other.
+-- The five pieces of a hidden field, one after the other.
 use Rattle.std.proofs.Common.{codes}
 use Rattle.status_worker.specs.Marks.{html_text}
 use Rattle.status_worker.proofs.PutLaws.{put_five}

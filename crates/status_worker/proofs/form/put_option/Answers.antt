@@ -1,4 +1,4 @@
--- Five pieces, one after the other.
+-- The five pieces of an option, one after the other.
 use Rattle.std.proofs.Common.{ℕ, List, ◌++◌, codes, ap, ◌∙◌}
 use Rattle.std.specs.Str.{bytes_eq}
 use Rattle.status_worker.specs.Form.{selected}

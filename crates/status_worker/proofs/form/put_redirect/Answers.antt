@@ -1,4 +1,4 @@
--- Three pieces, one after the other.
+-- The three pieces of a redirect, one after the other.
 use Rattle.std.proofs.Common.{ℕ, List, ◌++◌, codes, ap, ◌∙◌}
 use Rattle.status_worker.specs.Form.{redirect_name}
 use Rattle.status_worker.specs.Marks.{html_text}

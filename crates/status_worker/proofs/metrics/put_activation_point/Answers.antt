@@ -1,4 +1,4 @@
--- Five pieces, one after the other.
+-- The five pieces of the line on an activation, one after the other.
 use Rattle.std.proofs.Common.{codes}
 use Rattle.std.specs.Str.{bytes_eq}
 use Rattle.status_worker.specs.Metrics.{label_pair, member_labels, one_if}

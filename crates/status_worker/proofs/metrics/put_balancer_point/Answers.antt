@@ -1,4 +1,4 @@
--- Five pieces, one after the other.
+-- The five pieces of the line on a balancer, one after the other.
 use Rattle.std.proofs.Common.{ℕ, List, ◌++◌, codes, ap, ◌∙◌}
 use Rattle.std.specs.Fmt.{decimal}
 use Rattle.status_worker.specs.Metrics.{label_pair}

@@ -1,4 +1,4 @@
--- The pieces of the head, one after the other.
+-- The pieces of the head of a page's reply, one after the other.
 use Rattle.std.proofs.Common.{ap, ◌++◌, ◌∙◌}
 use Rattle.http_out.specs.Dates.{date_field}
 use Rattle.status_worker.specs.Pages.{page_type}

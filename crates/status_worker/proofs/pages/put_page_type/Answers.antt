@@ -1,4 +1,4 @@
--- Three pieces, one after the other.
+-- The three pieces of a page's reply up to its length, one after the other.
 use Rattle.std.proofs.Common.{ℕ, List, ◌++◌, codes, ap, ◌∙◌}
 use Rattle.status_worker.specs.Mimes.{content_type}
 use Rattle.status_worker.proofs.PageLaws.{three_put}

@@ -1,4 +1,4 @@
--- The pieces of the head, one after the other.
+-- The pieces of the head of a refusal's answer, one after the other.
 use Rattle.std.proofs.Common.{List, ℕ, ◌++◌, ap, codes, ◌∙◌}
 use Rattle.std.proofs.lemmas.List.{append_assoc}
 use Rattle.http_out.specs.Dates.{date_field}

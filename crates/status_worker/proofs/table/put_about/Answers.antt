@@ -1,4 +1,4 @@
--- Five pieces, one after the other.
+-- The five pieces of a page's part on a balancer, one after the other.
 use Rattle.std.proofs.Common.{ℕ, List, ◌++◌, codes, ap, ◌∙◌}
 use Rattle.std.specs.Fmt.{decimal}
 use Rattle.status_worker.specs.Words.{method_letter}

@@ -1,4 +1,4 @@
--- The lists of the desk are lent.
+-- The lists of the desk are lent to a Select.
 use Rattle.std.proofs.Common.{◌∙◌, List, length, sym, ap, subst}
 use Rattle.std.specs.Prelude.{vec_capacity}
 use Rattle.lb_book.specs.Journal.{Journal}

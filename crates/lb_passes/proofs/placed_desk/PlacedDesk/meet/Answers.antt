@@ -1,4 +1,4 @@
--- The pass stays in its place.
+-- The pass stays in its place when it meets a note.
 use Rattle.std.proofs.Common.{◌∙◌, ap, sym, arith}
 use Rattle.lb_book.specs.Desks.{DeskState}
 use Rattle.lb_passes.proofs.PlacedLaws.{placed_stay}

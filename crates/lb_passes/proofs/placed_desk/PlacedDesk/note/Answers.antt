@@ -1,4 +1,4 @@
--- The pass stays in its place.
+-- The pass stays in its place when a note is made of it.
 use Rattle.std.proofs.Common.{◌∙◌, List, ap, arith}
 use lib.ListN.{get_elem?}
 use Rattle.lb_book.specs.Desks.{DeskState}

@@ -1,4 +1,4 @@
--- The pass stays in its place.
+-- The pass stays in its place over an ask.
 use Rattle.lb_passes.proofs.PlacedLaws.{placed_stay}
 use Rattle.lb_passes.proofs.placed_desk.PlacedDeskDesk.choose.Goals as goal
 

@@ -1,4 +1,4 @@
--- The pass stays in its place.
+-- The pass stays in its place over a Return.
 use Rattle.lb_passes.proofs.PlacedLaws.{placed_stay}
 use Rattle.lb_passes.proofs.placed_desk.PlacedDeskDesk.hand_back.Goals as goal
 

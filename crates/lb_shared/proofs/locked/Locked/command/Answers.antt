@@ -1,4 +1,4 @@
--- A hold of a journal that was cut before, where it had come to that length.
+-- A command in a hold, of a journal that was cut before where it had come to that length.
 use Rattle.std.proofs.Common.{◌≡◌, ◌-◌, ◌<◌, ◌∙◌, List, length, inl, refl, sym, ap, subst, arith}
 use Rattle.lb_book.specs.Journal.{Journal}
 use Rattle.lb_book.specs.PlainDesks.{AreLegal}
