@@ -63,7 +63,7 @@ answer_by app forward body DropBehindHead = Headers broken_head ∷ []
 answer_by app forward body DropBehindChunk = Headers broken_head ∷ Chunk (codes "xxx") ∷ []
 answer_by app forward body Unknown = messages_of app.packet unknown
 
--- What the container answers to a request with these data of its body.
+-- The container's answer to a request with these data of its body.
 abbrev pub answer_of : AppConfig → Forward → List ℕ → List Message
 answer_of app forward body = answer_by app forward body (application_of app forward)
 

@@ -53,7 +53,7 @@ IsRefused Within Code payload = ⊥
 IsRefused Within BadRequest payload = ⊥
 IsRefused Within Piece payload = (piece : List ℕ) → SpellsPiece piece payload → ⊥
 
--- What came of a packet that can't be taken: too little to be one, the head of one that is too long, or one whole.
+-- The bytes of a packet that can't be taken: too few to be one, the head of one that is too long, or one whole.
 abbrev pub IsBadBy : ℕ → TurnPlace → BadPacket → List ℕ → Type 0
 IsBadBy most place Magic bytes = IsBad false bytes
 IsBadBy most place TooLong bytes = IsTooLong false most bytes

@@ -83,12 +83,12 @@ pub record CameTaken (app : AppConfig) (forward : Forward) (first : List ℕ) (p
   pub asked : AskedFor app forward first past
   pub whole : bytes ≡ front ++ answers
 
--- What came of a body.
+-- The bytes that came of a body.
 abbrev pub CameBody : AppConfig → Forward → Body → List ℕ → Type 0
 CameBody app forward Awaited bytes = IsTrue (has_first forward) × (bytes ≡ [])
 CameBody app forward (Taken first past) bytes = CameTaken app forward first past bytes
 
--- What came of a turn.
+-- The bytes that came of a turn.
 abbrev pub Came : AppConfig → ContainerTurn → List ℕ → Type 0
 Came app Idle bytes = bytes ≡ []
 Came app Ping bytes = bytes ≡ packet false (10 ∷ [])
@@ -100,7 +100,7 @@ Came app (Request forward body) bytes =
 abbrev pub ask : AppConfig → Message
 ask app = Ask (app.packet - 6)
 
--- What is owed next for a body that was taken so far: a further ask, or the answer.
+-- The messages owed next for a body that was taken so far: a further ask, or the answer.
 abbrev pub next : AppConfig → Forward → List ℕ → List (List ℕ) → List Message
 next app forward first past =
     if asks_on app forward first past then ask app ∷ [] else answer_of app forward (data_of first past)
@@ -109,7 +109,7 @@ abbrev pub owed_for : AppConfig → Forward → Body → List Message
 owed_for app forward Awaited = []
 owed_for app forward (Taken first past) = replicate (length past) (ask app) ++ next app forward first past
 
--- What the container owes for what came of a turn.
+-- The messages that the container owes for the bytes that came of a turn.
 abbrev pub owed : AppConfig → ContainerTurn → List Message
 owed app Idle = []
 owed app Ping = Pong ∷ []

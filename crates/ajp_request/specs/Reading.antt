@@ -136,7 +136,7 @@ behind_ends line ends bytes = do
   headers ← headers_at header_names false bytes
   behind_headers line ends headers.0 headers.1
 
--- What a payload reads as, whole.
+-- The reading of a whole payload.
 unfoldable pub forward_of : List ℕ → Result Forward Refusal
 forward_of payload = do
   line ← line_at payload

@@ -17,7 +17,7 @@ use Rattle.ajp_talk.specs.declared.ending.TalkEnd.TheVariants as ends
 abbrev pub Brings : (s n : Moment) → List ℕ → Type 0
 Brings s n bytes = (s.incoming ≡ Some bytes) ⊎ (IsEmpty s.received × (n.received ≡ Some bytes))
 
--- What the link brings begins with CPong, where the talk pings, and this reply, whose status isn't listed, below the
+-- The link brings CPong first, where the talk pings, and then this reply, whose status isn't listed, below the
 -- limit; the client's bytes have the body whole and below its own; and no fault rises.
 pub record HasWhole (plan : TalkPlan) (s n : TalkMoment) (all : List Message) : Type 0 where
   pub reply : List ℕ

@@ -39,7 +39,7 @@ BreaksSum plan past (End reuse) = (parts : ReplyParts) × (head_of past ≡ Some
 BreaksSum plan past (Ask n) = ⊥
 BreaksSum plan past Pong = ⊥
 
--- What came after the accepted messages leaves the grammar of a reply: it begins no message, or a message that may not
+-- The bytes after the accepted messages leave the grammar of a reply: they begin no message, or a message that may not
 -- stand there.
 abbrev pub IsWrong : TalkPlan → List Message → List ℕ → Option Message → Type 0
 IsWrong plan past rest None = BeginsNoMessage plan.packet rest
@@ -328,7 +328,7 @@ pub record HasWantedEarly (plan : TalkPlan) (s n : TalkMoment) : Type 0 where
   pub body : n.body ≡ s.body
   pub steady : IsSteady s.line n.line
 
--- What a talk's answer says, from the moment of its call to the moment of its return.
+-- A talk's answer, from the moment of its call to the moment of its return.
 abbrev pub IsTalk : TalkPlan → TalkMoment → TalkMoment → Result TalkEnd NoMemory → Type 0
 IsTalk plan s n (Ok (ends.Done told reuse bytes)) = IsDone plan s n told reuse bytes
 IsTalk plan s n (Ok (ends.Failed stage cause told bytes)) = HasFailed plan s n stage cause told bytes ⊎ HasNoPong plan s n stage cause told bytes

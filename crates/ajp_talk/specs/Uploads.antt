@@ -4,7 +4,7 @@ use Rattle.jk_io.specs.declared.traits.streams.Meanings.{Ghosts}
 use Rattle.ajp_talk.specs.Moments.{TalkMoment, talk_at}
 use Rattle.ajp_talk.specs.declared.upload.Upload.{Upload}
 
--- What is known then: `talk_over L.Meanings C.Meanings line client upload`.
+-- The moment then: `talk_over L.Meanings C.Meanings line client upload`.
 abbrev pub talk_over : {L C A B : Type 0} → Ghosts L A → Ghosts C B → L → C → Upload → TalkMoment
 talk_over told_of_line told_of_client line client u = talk_at told_of_line told_of_client line client u.body.now u.inbox.now
 

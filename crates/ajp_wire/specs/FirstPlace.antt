@@ -8,7 +8,7 @@ use Rattle.ajp_wire.specs.declared.errors.DecodeError.TheVariants.{Short, BadCod
 abbrev pub Begins : (List ℕ → Type 0) → List ℕ → Type 0
 Begins Whole bytes = (more : List ℕ) × Whole (bytes ++ more)
 
--- What stands before the place begins a payload. With the byte at the place, or the integer there, it begins none.
+-- The bytes before the place begin a payload. With the byte at the place, or the integer there, they begin none.
 pub record IsFirstBad (Whole : List ℕ → Type 0) (payload : List ℕ) (at : ℕ) : Type 0 where
   pub front : List ℕ
   pub there : List ℕ

@@ -53,7 +53,7 @@ pub record IsBad (from_container : Bool) (bytes : List ℕ) : Type 0 where
   pub begins_none : IsNoPacket from_container bytes
   pub no_more_than_head : length bytes ≤ 4
 
--- What the bytes are that came, for each answer.
+-- The bytes that came, for each answer.
 abbrev pub CameAs : Bool → ℕ → Result (List ℕ) PacketError → List ℕ → Type 0
 CameAs from_container most (Ok payload) bytes = IsPacket from_container most payload bytes
 CameAs from_container most (Err (End count)) bytes = bytes ≡ []
@@ -105,7 +105,7 @@ pub record HasCome (before after : Moment) (bytes : List ℕ) : Type 0 where
   pub used : before.incoming ≡ prepended bytes after.incoming
   pub kept : after.received ≡ appended before.received bytes
 
--- What a read into a buffer answered, with the payload that the buffer has after it.
+-- The answer of a read into a buffer, with the payload that the buffer has after it.
 abbrev pub read_into : Result Unit PacketError → List ℕ → Result (List ℕ) PacketError
 read_into (Ok done) payload = Ok payload
 read_into (Err error) payload = Err error

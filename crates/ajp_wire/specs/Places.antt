@@ -23,7 +23,7 @@ pub record IsAbsentAt (bytes : List ℕ) (at next : ℕ) : Type 0 where
   pub behind : next ≡ at + 2
   pub inside : next ≤ length bytes
 
--- What stands at a place: a string, by the place and the length of its text, or an absent one.
+-- A string at a place, by the place and the length of its text, or an absent one.
 abbrev pub IsStringAt : List ℕ → ℕ → Option (ℕ × ℕ) → ℕ → Type 0
 IsStringAt bytes at (Some text) next = IsTextAt bytes at text.0 text.1 next
 IsStringAt bytes at None next = IsAbsentAt bytes at next

@@ -115,7 +115,7 @@ pub record IsAtStatus (v : Visit) (head : Head) (status : Status) : Type 0 where
   pub mounted : mounted_at v head ≡ Some (named.Status place)
   pub stands : slice_get v.cfg.statuses place ≡ Some status
 
--- What was asked was done, and the balancers were looked at afterwards.
+-- All that was asked was done, and the balancers were looked at afterwards.
 pub record HasPage (v : Visit) (status : Status) (query : Option (List ℕ)) (s m : ClientStanding) (page : List ℕ) : Type 0 where
   pub only : Option ℕ
   pub done : IsDone v.cfg v.session status query s.desk m.desk only
@@ -146,7 +146,7 @@ pub record IsStatusUnwritten (v : Visit) (status : Status) (query : Option (List
   pub alone : n ≡ record s { desk = n.desk }
   pub why : IsBroken v.cfg v.session status query s.desk n.desk ⊎ ((only : Option ℕ) × IsDone v.cfg v.session status query s.desk n.desk only)
 
--- What a status worker's request is answered with: the page, as many bytes of it as are sent, or why there is none.
+-- The answer to a status worker's request: the page, as many bytes of it as are sent, or why there is none.
 abbrev pub IsStatusAnswer : Visit → Status → Head → (last : Bool) → (s n : ClientStanding) → Result ℕ SessionStop → Type 0
 IsStatusAnswer v status head last s n (Ok len) =
     (m : ClientStanding) × (page : List ℕ) × HasPage v status head.query s m page
@@ -171,7 +171,7 @@ IsPaged v head last s n answer = (status : Status) × IsAtStatus v head status �
 
 -- ---- a request that is mounted
 
--- What follows 100 Continue, and the row that it adds. The body stands where it was taken to.
+-- The answer that follows 100 Continue, and the row that it adds. The body stands where it was taken to.
 abbrev pub IsAnswerAt : Visit → Head → (last : Bool) → (s n : ClientStanding) → (body body' : BodyIn) → Answered → List Served → Type 0
 IsAnswerAt v head last s n body body' answered.Whole rows =
     ((member : ℕ) × (told : Told) × (row : Served) × (is : IsForwarded v head last s n body body' (exchange_end.Done member told))
@@ -217,7 +217,7 @@ IsEarlyLess v head s n =
     ((mounted_at v head ≡ None) × IsLess s n (own_for 404 (own_kind_at v head)))
     ⊎ (IsSome (mounted_at v head) × IsLess s n (continue_for head))
 
--- What comes before 100 Continue: 404 where no worker is mounted there; or nothing whole was written.
+-- The end before 100 Continue: 404 where no worker is mounted there; or nothing whole was written.
 abbrev pub StopsEarly : Visit → Head → (s n : ClientStanding) → Answered → List Served → Type 0
 StopsEarly v head s n answered.Whole rows = ⊥
 StopsEarly v head s n (answered.Not (stop.Closed why.ByClient)) rows = ⊥
@@ -234,7 +234,7 @@ StopsEarly v head s n (answered.Not stop.Truncated) rows = ⊥
 StopsEarly v head s n (answered.Not (stop.Stray ticket returned_at)) rows = ⊥
 StopsEarly v head s n (answered.Not stop.NoMemory) rows = (rows ≡ []) × ((n ≡ s) ⊎ IsEarlyLess v head s n)
 
--- What a request is answered with, and the rows that it adds.
+-- The answer to a request, and the rows that it adds.
 abbrev pub IsAnswer : Visit → Head → (last : Bool) → (s n : ClientStanding) → (body body' : BodyIn) → Answered → List Served → Type 0
 IsAnswer v head last s n body body' a rows =
     StopsEarly v head s n a rows

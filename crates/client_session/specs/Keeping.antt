@@ -28,7 +28,7 @@ pub record KeepsAround {B K R C X : Type 0} (state : B → DeskState) (of_reach 
   pub client_faults : of_client.faults s.client.now ≤ of_client.faults n.client.now
   pub same : AreSame s n
 
--- What an answer tells of strays, and of the client's faults; and what is kept.
+-- An answer by what it tells of strays and of the client's faults, and by what is kept.
 pub record TellsAnswer {B K R C X : Type 0} (state : B → DeskState) (of_reach : Ghosts R Beside) (of_client : Ghosts C X) (v : Visit)
     (answered : Answered) (s n : Surroundings B K R C) : Type 0 where
   pub met : MeetsInAnswer answered (state s.desk.now) (state n.desk.now)
@@ -42,7 +42,7 @@ pub record TellsTurn {B K R C X : Type 0} (state : B → DeskState) (of_reach : 
   pub fault : RisesInTurn turn (of_client.faults s.client.now) (of_client.faults n.client.now)
   pub kept : KeepsAround state of_reach of_client v s n
 
--- What a status worker's answer means to its session, and the row of its request.
+-- A status worker's answer as one of its session, with the row of its request.
 abbrev pub IsShown : Result ℕ SessionStop → (name : List ℕ) → (head_only : Bool) → Asked → Settled → Type 0
 IsShown (Ok len) name head_only asked settled = settled ≡ whole_settled (worker_row asked 200 len name)
 IsShown (Err stop) name head_only asked settled = settled ≡ settled_by stop asked head_only

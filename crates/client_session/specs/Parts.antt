@@ -189,8 +189,8 @@ abbrev pub IsUnreadAnswer : Visit → (number : ℕ) → (requests : ℕ) → Li
 IsUnreadAnswer v number requests talks bytes =
     (requests ≡ number + 1) × ((head : Head) × (is_last number head ≡ false) × IsWholeAnswer v head (is_last number head) talks bytes)
 
--- What the client got after the parts, by why the session ended and how many requests it counts, and the talks that were held
--- for the request that ended it.
+-- The bytes that the client got after the parts, by why the session ended and how many requests it counts, and the talks
+-- that were held for the request that ended it.
 abbrev pub IsLastWritten : Visit → (number : ℕ) → (requests : ℕ) → SessionStop → List Talk → List ℕ → Type 0
 IsLastWritten v number requests (stop.Closed why.ByClient) talks bytes = (requests ≡ number) × (bytes ≡ []) × (talks ≡ [])
 IsLastWritten v number requests (stop.Closed why.Idle) talks bytes = (requests ≡ number) × (bytes ≡ []) × (talks ≡ [])

@@ -29,7 +29,7 @@ pub record ClientStanding : Type 0 where
 abbrev pub client_at : {C X : Type 0} → Ghosts C X → C → Moment
 client_at told client = moment told.incoming told.received told.sent told.faults client
 
--- What is known at a moment, by what the types tell: `standing B.state K.answers R.Meanings C.Meanings`.
+-- The standing at a moment, by what the types tell: `standing B.state K.answers R.Meanings C.Meanings`.
 abbrev pub standing : {B K R C X : Type 0} → (B → DeskState) → (K → Option (List ℕ)) → Ghosts R Beside → Ghosts C X
     → B → K → R → C → List ℕ → ClientStanding
 standing state answers told_of_reach told_of_client desk clock reach client inbox = record {

@@ -26,7 +26,7 @@ use Rattle.client_session.specs.declared.surroundings.Surroundings.{Surroundings
 use Rattle.client_session.specs.declared.turn.Settled.{Settled}
 use Rattle.client_session.specs.declared.turn.SessionTurn.{SessionTurn}
 
--- What is known then: `standing_of B.state K.answers R.Meanings C.Meanings around`.
+-- The standing then: `standing_of B.state K.answers R.Meanings C.Meanings around`.
 abbrev pub standing_of : {B K R C X : Type 0} → (B → DeskState) → (K → Option (List ℕ)) → Ghosts R Beside → Ghosts C X
     → Surroundings B K R C → ClientStanding
 standing_of state answers told_of_reach told_of_client s =

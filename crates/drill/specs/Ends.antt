@@ -32,8 +32,8 @@ pub record IsStarted (b : Journal) : Type 0 where
   pub none_out : b.opening.out ≡ []
   pub sound : IsSound b
 
--- What a drill hands out: the summary of its Book's journal, or that journal's text. In the journal each request of each thread
--- was answered whole, and the bodies in the rows of all sessions had the bytes that were asked for.
+-- The text that a drill hands out: the summary of its Book's journal, or that journal's text. In the journal each request of
+-- each thread was answered whole, and the bodies in the rows of all sessions had the bytes that were asked for.
 pub record IsDrill (seed threads requests : ℕ) (text passes : Bool) (told : List ℕ) (b : Journal) : Type 0 where
   pub summary : text ≡ false → told ≡ summary_text seed threads requests passes b.entries
   pub journal : text ≡ true → IsJournalText b told

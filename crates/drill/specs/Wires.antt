@@ -6,8 +6,8 @@ use Rattle.ajp_container.specs.declared.ends.ContainerEnd.{ContainerEnd}
 use Rattle.ajp_container.specs.Ends.{IsTalk}
 use Rattle.site_config.specs.declared.balancer.Lb.{Lb}
 
--- What the connector wrote, of which the container is done with a front and has the rest to come; and what the container
--- wrote.
+-- The bytes that the connector wrote, of which the container is done with a front and has the rest to come; and those that
+-- the container wrote.
 pub record WireState : Type 0 where
   pub done : List ℕ
   pub coming : List ℕ

@@ -30,7 +30,7 @@ WritesTold sent sent_now faults faults_now told ended =
     ⊎ (PutsFront sent sent_now told × (ended ≡ end.OutputFault) × Rose faults faults_now)
     ⊎ (PutsFront sent sent_now told × (ended ≡ end.NoMemory))
 
--- What a drill handed out was written, or a front of it.
+-- The text that a drill handed out was written, or a front of it.
 pub record TellsDrill (seed threads requests : ℕ) (text passes : Bool) (sent sent_now : Option (List ℕ)) (faults faults_now : ℕ) (ended : DrillEnd) : Type 0 where
   pub told : List ℕ
   pub book : Journal
@@ -49,7 +49,7 @@ pub record WantsDrill (sent sent_now : Option (List ℕ)) (ended : DrillEnd) : T
   pub ends : ended ≡ end.NoMemory
   pub written : sent_now ≡ sent
 
--- What a drill does with the output.
+-- A drill, by what it does with the output.
 pub data RunsDrill (seed threads requests : ℕ) (text passes : Bool) (sent sent_now : Option (List ℕ)) (faults faults_now : ℕ) (ended : DrillEnd) : Type 0 where
   Told : TellsDrill seed threads requests text passes sent sent_now faults faults_now ended
       → RunsDrill seed threads requests text passes sent sent_now faults faults_now ended

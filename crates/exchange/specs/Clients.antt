@@ -202,7 +202,7 @@ pub record GetsOwn (q : Errand) (status : ℕ) (s n : Scene) : Type 0 where
   pub unavailable : status ≡ 503
       → EndsWith s.desk n.desk answer.NoMember ⊎ ((cause : Cause) × (is_status cause ≡ true) × GivesUp q s.around n.around cause)
 
--- What the client has, by the end of the exchange. Truncated comes only where its bytes ended within the body, ClientFault
+-- The client by the end of the exchange. Truncated comes only where its bytes ended within the body, ClientFault
 -- only where its faults rose, and Stray only where the desk's strays rose.
 abbrev pub Gives : Errand → Scene → Scene → ExchangeEnd → Type 0
 Gives q s n (exchange_end.Done member told) = GetsReply q member told s.around n.around

@@ -147,7 +147,7 @@ pub record HasNone (q : Errand) (s n : Scene) (end : ExchangeEnd) : Type 0 where
   pub steady : IsCalm end → n.around.client.faults ≡ s.around.client.faults
   pub used : IsUsed s.around.body n.around.body
 
--- What an exchange's end says.
+-- An exchange, by its end.
 abbrev pub IsExchange : Errand → Scene → Scene → ExchangeEnd → Type 0
 IsExchange q s n end = HasNone q s n end ⊎ HasRounds q s n end
 

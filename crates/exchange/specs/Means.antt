@@ -8,11 +8,11 @@ use Rattle.exchange.specs.Rounds.{Scene, scene}
 use Rattle.exchange.specs.declared.sides.Means.{Means}
 use Rattle.exchange.specs.declared.sides.Sides.{Sides}
 
--- What is known between two talks: `around_of R.Meanings C.Meanings sides`.
+-- All that is known between two talks: `around_of R.Meanings C.Meanings sides`.
 abbrev pub around_of : {R C X : Type 0} → Ghosts R Beside → Ghosts C X → Sides R C → Around
 around_of told_of_reach told_of_client s = around told_of_reach told_of_client s.reach.now s.client.now s.body.now s.inbox.now
 
--- What is known between two rounds: `scene_of B.state K.answers R.Meanings C.Meanings means`.
+-- All that is known between two rounds: `scene_of B.state K.answers R.Meanings C.Meanings means`.
 abbrev pub scene_of : {B K R C X : Type 0} → (B → DeskState) → (K → Option (List ℕ)) → Ghosts R Beside → Ghosts C X → Means B K R C → Scene
 scene_of state answers told_of_reach told_of_client m =
     scene state answers told_of_reach told_of_client m.desk.now m.clock.now m.sides.reach.now m.sides.client.now m.sides.body.now m.sides.inbox.now

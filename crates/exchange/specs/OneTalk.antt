@@ -31,7 +31,7 @@ pub record Around : Type 0 where
   pub client : Moment
   pub body : BodyAt
 
--- What is known then, by what the types of the reach and of the client tell: `around R.Meanings C.Meanings`.
+-- The same, by what the types of the reach and of the client tell: `around R.Meanings C.Meanings`.
 abbrev pub around : {R C B : Type 0} → Ghosts R Beside → Ghosts C B → R → C → BodyIn → List ℕ → Around
 around told_of_reach told_of_client reach client body inbox = record {
   talks = (told_of_reach.beside reach).talks;
@@ -123,7 +123,7 @@ pub record IsUnbegun (s n : Around) : Type 0 where
   pub client : n.client ≡ s.client
   pub body : n.body ≡ s.body
 
--- What a talk on a member answers.
+-- The answer of a talk on a member.
 abbrev pub IsOneTalk : (lb member : ℕ) → Endpoint → TalkPlan → (fresh : Bool) → Around → Around → Result TalkEnd NoMemory → Type 0
 IsOneTalk lb member endpoint plan fresh s n answer =
     IsHeld lb member endpoint plan fresh s n answer

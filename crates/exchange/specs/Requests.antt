@@ -23,7 +23,7 @@ use Rattle.lb_model.specs.declared.ask.Terms.{Terms}
 use Rattle.site_config.specs.declared.balancer.Lb.{Lb}
 use Rattle.exchange.specs.declared.request.Request.{Request}
 
--- What an exchange is to do: a client's request, and the balancer where it is mounted.
+-- The errand of an exchange: a client's request, and the balancer where it is mounted.
 pub record Errand : Type 0 where
   pub head : Head
   pub peer : List ℕ
@@ -83,7 +83,7 @@ abbrev pub is_none_there : List (List ℕ) → Bool
 is_none_there [] = true
 is_none_there (id ∷ ids) = false
 
--- What the balancer is asked, where these members were tried: the mount's terms go with it, and a request without a
+-- The ask to the balancer, where these members were tried: the mount's terms go with it, and a request without a
 -- session id is fresh.
 abbrev pub ask_for : Errand → ℕ → Ask
 ask_for q tried = record {

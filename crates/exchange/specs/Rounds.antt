@@ -36,7 +36,7 @@ pub record Scene : Type 0 where
   pub clock : Option (List ℕ)
   pub around : Around
 
--- What is known then, by what the types tell: `scene B.state K.answers R.Meanings C.Meanings`.
+-- The same, by what the types tell: `scene B.state K.answers R.Meanings C.Meanings`.
 abbrev pub scene : {B K R C X : Type 0} → (B → DeskState) → (K → Option (List ℕ)) → Ghosts R Beside → Ghosts C X
     → B → K → R → C → BodyIn → List ℕ → Scene
 scene state answers told_of_reach told_of_client desk clock reach client body inbox = record {
@@ -45,7 +45,7 @@ scene state answers told_of_reach told_of_client desk clock reach client body in
   around = around told_of_reach told_of_client reach client body inbox;
 }
 
--- What was done in a round. The moments are those at which the desk was asked and got the lease back.
+-- A round. The moments are those at which the desk was asked and got the lease back.
 pub record Round : Type 0 where
   pub member : ℕ
   pub ticket : ℕ

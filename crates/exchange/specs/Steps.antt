@@ -55,7 +55,7 @@ verdict_for endpoint head member ran_is.TooLarge = verdict.Answer 413
 verdict_for endpoint head member (ran_is.Wanted bytes) = verdict.End exchange_end.NoMemory
 verdict_for endpoint head member (ran_is.Ended end bytes) = after endpoint head member end
 
--- What follows where the lease's ticket came back, or was a stray.
+-- The verdict where the lease's ticket came back, or was a stray.
 abbrev pub verdict_back : Option Stray → Endpoint → Head → ℕ → Ran → RoundVerdict
 verdict_back None endpoint head member ran = verdict_for endpoint head member ran
 verdict_back (Some stray) endpoint head member ran = verdict.End (exchange_end.Stray stray.ticket stray.returned_at)
@@ -84,7 +84,7 @@ IsNoChoice q tried s n v =
     ⊎ (((v ≡ verdict.Answer 500) × IsUnchosen q s n (IsFull q))
     ⊎ ((v ≡ verdict.End exchange_end.NoMemory) × IsUnchosen q s n (WantsMemory q))))
 
--- What a round comes to.
+-- A round, as a step to its verdict.
 abbrev pub IsStep : Errand → (first : List ℕ) → (tried : ℕ) → (fresh : Bool) → Scene → Scene → RoundVerdict → Type 0
 IsStep q first tried fresh s n v =
     IsNoChoice q tried s n v

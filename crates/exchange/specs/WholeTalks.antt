@@ -24,7 +24,7 @@ pub record IsStrict (endpoint : Endpoint) : Type 0 where
 abbrev pub AreStrict : List Endpoint → Type 0
 AreStrict ends = (m : ℕ) (endpoint : Endpoint) → slice_get ends m ≡ Some endpoint → IsStrict endpoint
 
--- What was sent in this talk is less than its ping, the Forward Request and the first piece.
+-- The bytes sent in this talk are less than its ping, the Forward Request and the first piece.
 abbrev pub IsPartial : Errand → (first : List ℕ) → Talk → Type 0
 IsPartial q first t =
     (config : MemberConfig) (endpoint : Endpoint) → slice_get q.balancer.book.members t.member ≡ Some config

@@ -71,7 +71,7 @@ pub record Delivery : Type 0 where
 abbrev pub forward_in : Delivery → Forward
 forward_in d = forward_for d.head d.peer d.direct d.member d.endpoint
 
--- What the standard's spelling holds: a port, at most 100 headers, and fields that fit their lengths.
+-- A delivery that the standard's spelling holds: a port, at most 100 headers, and fields that fit their lengths.
 pub record IsSpellable (d : Delivery) : Type 0 where
   pub port : d.head.port < 65536
   pub few : length d.head.headers ≤ 100

@@ -6,7 +6,7 @@ use Rattle.lb_model.specs.declared.segment.Segment.{Segment}
 use Rattle.lb_book.specs.Journal.{IsSegmentOf, Journal}
 use Rattle.gear_parts.specs.declared.world.Gear.{Gear}
 
--- What each Book kept, from balancer lb on, one segment for each in order, legal from its opening.
+-- The last segment of each Book, from balancer lb on, in order, legal from its opening.
 abbrev pub AreCuts : (lb : ℕ) → List Journal → List (ℕ × Segment) → Type 0
 AreCuts lb [] [] = Unit {0}
 AreCuts lb (book ∷ books) (kept ∷ more) =

@@ -43,7 +43,7 @@ pub record Start (D G T K S O C : Type 0) : Type 0 where
 abbrev pub start_with : {L D G T K S W O C : Type 0} → Part L D (WatchedState G T C) K S W (Option (LogState O)) → Start D G T K S O C
 start_with part = record { door = part.door; reach = part.reach; clock = part.clock; desk = unnumbered part.desk; log = part.log }
 
--- What the worker of a gear begins with: a desk of one part at this lock that has the gear's shelf and has seen nothing, a
+-- The start of a gear's worker: a desk of one part at this lock that has the gear's shelf and has seen nothing, a
 -- reach with its dial, its tape and this watch, and a log of this format where the gear has one.
 abbrev pub start_of : {D G T K S O C : Type 0} → (lock : TableId) → (sizes pools : List ℕ) → Option Watch → List FormatPart → Gear D G T K S O → Start D G T K S O C
 start_of lock sizes pools watch format gear = record {
@@ -72,7 +72,7 @@ gear_in part = record {
   log = sink_of part.log;
 }
 
--- What a desk left beside its shelf: its receipts, how many it forgot, its share, whose amount is the count of entries, and its seat.
+-- A desk's leaving, beside its shelf: its receipts, how many it forgot, its share, whose amount is the count of entries, and its seat.
 pub record DeskLeaves {L S V : Type 0} {N : SiteGhosts L} (desk : SharedState S) (left : Leaving L V N) : Type 0 where
   pub receipts_left : left.receipts ≡ desk.desk.receipts
   pub forgot : left.forgotten ≡ desk.forgotten

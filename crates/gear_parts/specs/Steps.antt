@@ -23,12 +23,12 @@ pub record AreTaken {D G T K S O C : Type 0} (tells : GearTells D G T K S O C) (
   pub idle : All (λ g. tells.is_idle g.tape) gears
   pub suited : AreSuited (λ number. tells.suits number wanted cfg) 0 gears
 
--- What `Takes` says of the gear of worker `number`, by what the types of the world and its parts tell.
+-- `Takes` for the gear of worker `number`, by what the types of the world and its parts tell.
 abbrev pub TakesGear : {W D G T K S O C X E Y Z V : Type 0} → WorldGhosts W D G T K S O C X E Y Z V → DoorGhosts D C X → TapeGhosts T → ClockGhosts K → ℕ → GearOrder → (before after : W) → (gears more : List (Gear D G T K S O)) → Type 0
 TakesGear of_world of_door of_tape of_clock number asked before after gears more =
     Takes (gear_tells of_world of_door of_tape of_clock) number (wants_of asked) (option_copied asked.cfg) (world_side of_world before) (world_side of_world after) gears more
 
--- What `AreTaken` says of the gears, by what the types tell.
+-- `AreTaken` for the gears, by what the types tell.
 abbrev pub TakesGears : {W D G T K S O C X E Y Z V : Type 0} → WorldGhosts W D G T K S O C X E Y Z V → DoorGhosts D C X → TapeGhosts T → ClockGhosts K → GearOrder → (before after : W) → List (Gear D G T K S O) → Type 0
 TakesGears of_world of_door of_tape of_clock asked before after gears =
     AreTaken (gear_tells of_world of_door of_tape of_clock) (wants_of asked) (option_copied asked.cfg) (world_side of_world before) (world_side of_world after) gears

@@ -34,7 +34,7 @@ world_side of_world world = record {
 abbrev pub gear_told : {D G T K S O C X : Type 0} → DoorGhosts D C X → TapeGhosts T → ClockGhosts K → Gear D G T K S O → GearSide C S O
 gear_told of_door of_tape of_clock = gear_side (side of_door.coming of_door.left of_door.faults) of_tape.talks of_clock.answers
 
--- What a world and its parts tell: the world at a moment, a gear, a client's link, a shelf with its faults, and what a log is
+-- The tellings of a world and its parts: the world at a moment, a gear, a client's link, a shelf with its faults, and what a log is
 -- written to; whether a read of a client may wait; whether gears were given the logs of a directory; whether a gear has all that
 -- it had before but for its door, and whether it is what a worker wants.
 pub record Tells (W G C S O X Z : Type 0) : Type 1 where
@@ -84,7 +84,7 @@ pub record RefusesGear {G : Type 0} (threads : ℕ) (before after : WorldSide G)
   pub passed : HandsAndTakes before after gears gears
   pub fewer : length gears < threads
 
--- What a world tells of its gears: a gear at a moment, whether its tape is idle, and whether it is what a worker wants.
+-- The tellings of a world on its gears: a gear at a moment, whether its tape is idle, and whether it is what a worker wants.
 pub record GearTells (D G T K S O C : Type 0) : Type 1 where
   pub told : Gear D G T K S O → GearSide C S O
   pub is_idle : T → Type 0

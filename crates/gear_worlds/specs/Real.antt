@@ -6,7 +6,7 @@ use Rattle.gear_worlds.specs.declared.real_world.WorldCounts.{WorldCounts}
 use Rattle.gear_worlds.specs.declared.shelves.RealShelf.{RealShelf}
 use Rattle.gear_worlds.specs.declared.shelves.RealShelf.TheVariants as shelf_is
 
--- What a gear needs is made ready, while as many gears are out as before. It fails only where the world's faults rose.
+-- A part of a gear is made ready, while as many gears are out as before. It fails only where the world's faults rose.
 pub record Readies {T : Type 0} (before after : WorldCounts) (result : Result T IoError) : Type 0 where
   pub cause : HasCause before.failed after.failed result
   pub steady : IsOk result → after.failed ≡ before.failed

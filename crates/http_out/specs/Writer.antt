@@ -68,7 +68,7 @@ pub record BreaksOff (w now : Writer) (sent sent_now : Option (List ℕ)) (bytes
   pub puts : PutsFront sent sent_now bytes
   pub state : now ≡ record w { held = []; failed = true; passed = w.passed || nat_lt 0 (length puts.front) }
 
--- What a step with these bytes may answer, and where it leaves the writer and what was written. After a write was
+-- A step with these bytes, by its answer: where it leaves the writer, and what was written. After a write was
 -- refused no step is.
 abbrev pub IsStep : (refused : Bool) (bytes : List ℕ) (w counting next now : Writer) (sent sent_now : Option (List ℕ))
     → Result Unit OutError → Type 0

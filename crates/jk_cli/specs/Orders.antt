@@ -73,7 +73,7 @@ options_given parts =
 abbrev pub serve_options : List Part → Option ServeOptions
 serve_options parts = options_given parts >>= (λ given. if are_together given then Some given else None)
 
--- What a front lets its clients take: seconds for a head and between two requests, bytes a second, and how many may wait.
+-- The limits that a front sets its clients: seconds for a head and between two requests, bytes a second, and how many may wait.
 -- 0 is without limit.
 abbrev pub limits_given : List Part → Option ClientLimits
 limits_given parts =

@@ -31,7 +31,7 @@ pub record Drills {G L : Type 0} (seed threads requests : ℕ) (text passes : Bo
   pub runs : EndsDrilled (RunsDrill seed threads requests text passes s.sent n.sent s.output_faults n.output_faults) ended
   pub world : n.world ≡ s.world
 
--- What an order that asks for workers or threads does.
+-- An order that asks for workers or threads, by what it does.
 abbrev pub DoesOrder : {W G C S O X Z L : Type 0} → Tells W G C S O X Z → CommandOutside → Order → (s n : CommandSide G) → EndOf L → Type 0
 DoesOrder told outside (order.Serve o) s n ended =
     EndsServed (Serves told outside o.workers o.map (format_text o.format) o.threads (wants_by o) s n) ended

@@ -18,7 +18,7 @@ is_served other = false
 abbrev pub is_command : Order → Bool
 is_command o = is_served o || is_plain o
 
--- What was read of the words is no command that is done here: the words are none, or they are `demo`.
+-- The words are no command that is done here: they are none, or they are `demo`.
 abbrev pub IsNoCommand : Result Order WordsError → Type 0
 IsNoCommand (Ok o) = is_command o ≡ false
 IsNoCommand (Err refused.Bad) = Unit {0}

@@ -7,7 +7,7 @@ use Rattle.plain_commands.specs.Plain.{is_plain, EndsWith, Prints, PrintsFront}
 use Rattle.jk_commands.specs.declared.ends.EndOf.{EndOf}
 use Rattle.jk_commands.specs.declared.ends.EndOf.TheVariants as end
 
--- What each status of a plain command says, of an order that asks for no workers.
+-- An order that asks for no workers, by each status of a plain command.
 pub record RunsPlain (command : Order) (s n : PlainSide) (status : ℕ) : Type 0 where
   pub statuses : (status ≡ 0) ⊎ (status ≡ 1) ⊎ (status ≡ 2) ⊎ (status ≡ 3) ⊎ (status ≡ 4) ⊎ (status ≡ 5) ⊎ (status ≡ 6)
   pub done : status ≡ 0 → Prints command s.outside s.sent n.sent 0

@@ -27,7 +27,7 @@ pub record GivesNone {C : Type 0} (before after : DoorSide C) : Type 0 where
   pub left : after.left ≡ before.left
   pub no_fewer : before.faults ≤ after.faults
 
--- What a door did that answered so.
+-- A door that answered so.
 abbrev pub Arrives : {C : Type 0} → (before after : DoorSide C) → Arrival C → Type 0
 Arrives before after (arrival.Client link peer) = Gives before after link peer
 Arrives before after arrival.Closed = GivesNone before after × IsEmpty after.coming

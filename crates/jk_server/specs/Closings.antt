@@ -39,7 +39,7 @@ pub record IsDiscordOf (lbs : List Lb) (seats : List SeatNote) (books : List Jou
   pub receipts : List (ℕ × Entry)
   pub discord : IsDiscord receipts (kept_from 0 books) d
 
--- What each end of the closing says of the Books that it took.
+-- The Books that the closing took, by each of its ends.
 abbrev pub Closes : {C S O L : Type 0} → (S → Option (List (ℕ × Segment))) → (S → ℕ) → List Lb → List SeatNote → List Journal → (left back : List (GearSide C S O)) → Closing L → Type 0
 Closes shelved faults lbs seats books left back closing.Kept = KeepsFirst (Shelves shelved lbs seats books) left back
 Closes shelved faults lbs seats books left back closing.ShelfFault =

@@ -30,14 +30,14 @@ use Rattle.gear_parts.specs.declared.order.GearOrder.{GearOrder}
 use Rattle.jk_server.specs.declared.orders.container.ContainerOrder.{ContainerOrder}
 use Rattle.site_reports.specs.declared.site.ReadSite.{ReadSite}
 
--- What is told at a moment: how often the files failed, what the output was sent and how often it failed, and the world.
+-- The outside of a command at a moment: how often the files failed, what the output was sent and how often it failed, and the world.
 pub record CommandSide (G : Type 0) : Type 0 where
   pub file_faults : ℕ
   pub sent : Option (List ℕ)
   pub output_faults : ℕ
   pub world : WorldSide G
 
--- What the types of a command tell of its files, of its output, and of its world.
+-- The tellings of a command's types, on its files, its output and its world.
 pub record CommandTells (F O W G C S Y X Z : Type 0) : Type 1 where
   pub files : F → Option (List (List ℕ × List ℕ))
   pub file_faults : F → ℕ
@@ -89,7 +89,7 @@ pub record WantsMemory {G L : Type 0} (threads : ℕ) (s n : WorldSide G) (ended
   pub calm : n.faults ≡ s.faults
   pub status : ended ≡ end.Status 6
 
--- What a command for this many workers does with the world; `Runs` says what its run does.
+-- A command for this many workers, by what it does with the world; `Runs` says what its run does.
 pub data Works {G L : Type 0} (threads : ℕ) (Runs : WorldSide G → WorldSide G → CommandEnd L → Type 0) (s n : WorldSide G) (ended : CommandEnd L) : Type 0 where
   NoGear : LacksGear threads s n ended → Works threads Runs s n ended
   NoRoom : WantsMemory threads s n ended → Works threads Runs s n ended

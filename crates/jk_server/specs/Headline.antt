@@ -29,7 +29,7 @@ use Rattle.jk_server.specs.declared.part.WorkerEnd.TheVariants as worker
 use Rattle.jk_server.specs.declared.runs.ends.Closing.{Closing}
 use Rattle.jk_server.specs.declared.runs.ends.Closing.TheVariants as closing
 
--- What a worker's sessions were told: the receipts of each, in the order of the sessions. A session begins with none.
+-- The entries that a worker's sessions were told: the receipts of each, in the order of the sessions. A session begins with none.
 abbrev pub told_in : {C S Y : Type 0} → List (Run C S Y) → List Receipt
 told_in runs = flat_map (λ r. r.to.desk.desk.receipts) runs
 

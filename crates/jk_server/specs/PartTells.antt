@@ -13,7 +13,7 @@ use Rattle.jk_server.specs.Worker.{Keeps, keeps, worker_side, WorkerSide}
 use Rattle.gear_parts.specs.declared.part.Part.{Part}
 use Rattle.jk_server.specs.declared.part.Post.{Post}
 
--- What a door, a client's link, a clock and a reach tell, and a shelf and a log.
+-- The tellings of a door, a client's link, a clock and a reach, and of a shelf and a log.
 pub record PartTells (D R K S Y C X : Type 0) : Type 1 where
   pub door : D → DoorSide C
   pub link : Ghosts C X

@@ -26,7 +26,7 @@ pub record IsWorked {C S Y L X : Type 0} (visit : Peer → Visit) (told : Ghosts
   pub fit : IsFit cfg rules n.desk.desk beside
   pub parts : n.desk.desk.parts ≡ s.desk.desk.parts
 
--- What `IsWorked` says of the part of a worker with this number, from one moment to another.
+-- `IsWorked` for the part of a worker with this number, from one moment to another.
 abbrev pub WorksPart : {L D R K S W Y C X : Type 0} → PartTells D R K S Y C X → Config → List Rule → (number : ℕ) → (before after : Part L D R K S W Y) → WorkerEnd L → Type 0
 WorksPart told cfg rules number before after end =
     IsWorked (visit cfg rules number) told.link told.keeps cfg rules (told.door before.door) (told.door after.door)

@@ -16,7 +16,7 @@ pub record HasRoom {L V G : Type 0} (count : ℕ) (room : Ran L V G) : Type 0 wh
   pub no_gear : room.gears.items ≡ []
   pub space : HasSpace count room
 
--- What one more worker left was put after the rest.
+-- The leaving of one more worker was put after the rest.
 pub record PutsLeft {L V G : Type 0} (before after : Ran L V G) (end : WorkerEnd L) (left : V) (gear : G) : Type 0 where
   pub ends : after.workers.items ≡ before.workers.items ++ end ∷ []
   pub lefts : after.leaving.items ≡ before.leaving.items ++ left ∷ []

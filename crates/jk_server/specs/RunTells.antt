@@ -15,7 +15,7 @@ use Rattle.gear_parts.specs.Logs.{log_tells}
 use Rattle.gear_parts.specs.declared.world.Gear.{Gear}
 use Rattle.jk_server.specs.Worker.{Keeps, keeps}
 
--- What a door, a tape, a clock and a client's link tell, and a shelf and a log.
+-- The tellings of a door, a tape, a clock and a client's link, and of a shelf and a log.
 pub record RunTells (D T K S O C X : Type 0) : Type 1 where
   pub door : D → DoorSide C
   pub talks : T → Option (List Talk)

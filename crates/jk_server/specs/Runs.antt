@@ -71,7 +71,7 @@ pub record IsSiteRun {C S O L X : Type 0} (visits : ℕ → Peer → Visit) (tol
   pub closed : Closes shelved of.shelf_faults lbs seats books left back closing
   pub headline : IsHeadline visits told of lbs ends closing books
 
--- What `IsSiteRun` says of the gears that were handed in, and of what the run gave back.
+-- `IsSiteRun` for the gears that were handed in, and those that the run gave back.
 abbrev pub RunsGears : {D G T K S O L C X : Type 0} → RunTells D T K S O C X → SitePlan → List (Gear D G T K S O) → SiteRun L (Gear D G T K S O) → Type 0
 RunsGears told plan gears run =
     IsSiteRun (visit plan.cfg.now plan.map.now) told.link told.shelved told.keeps plan.format.now plan.cfg.now.lbs (gears_at told gears) (gears_at told run.gears.items) run.workers run.closing

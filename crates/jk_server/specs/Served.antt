@@ -205,17 +205,17 @@ ServesNext {L = L} visit told of before after s n link peer (Some end) =
 
 -- ---- said of a part, from one moment to another
 
--- What `IsServed` says of its worker.
+-- `IsServed` for its worker.
 abbrev pub ServesPart : {L D R K S W Y C X : Type 0} → PartTells D R K S Y C X → (Peer → Visit) → (before after : Part L D R K S W Y) → WorkerEnd L → Type 0
 ServesPart told visit before after end =
     IsServed visit told.link told.keeps (told.door before.door) (told.door after.door) (worker_of told before) (worker_of told after) end
 
--- What `ServesClient` says.
+-- `ServesClient` for its worker.
 abbrev pub ServesPartClient : {L D R K S W Y C X : Type 0} → PartTells D R K S Y C X → (Peer → Visit) → (before after : Part L D R K S W Y) → C → Peer → Option (WorkerEnd L) → Type 0
 ServesPartClient told visit before after link peer end =
     ServesClient visit told.link told.keeps (told.door before.door) (told.door after.door) (worker_of told before) (worker_of told after) link peer end
 
--- What `ServesNext` says.
+-- `ServesNext` for its worker.
 abbrev pub ServesPartNext : {L D R K S W Y C X : Type 0} → PartTells D R K S Y C X → (Peer → Visit) → (before after : Part L D R K S W Y) → C → Peer → Option (WorkerEnd L) → Type 0
 ServesPartNext told visit before after link peer end =
     ServesNext visit told.link told.keeps (told.door before.door) (told.door after.door) (worker_of told before) (worker_of told after) link peer end

@@ -29,7 +29,7 @@ KeepsCuts Kept Ended left back = (books : List Journal) × Ended books × ToFirs
 abbrev pub IsDiscordAt : (sizes firsts : List ℕ) → (starts : List Opening) → (seats : List SeatNote) → DiscordNote → Type 0
 IsDiscordAt sizes firsts starts seats d = (entries : ℕ) × (receipts : List (ℕ × Entry)) × DiffersWhole starts seats sizes firsts entries receipts d
 
--- What each end of the closing says of the gears, as the workers left them and as they came back.
+-- The gears as the workers left them and as they came back, by each end of the closing.
 abbrev pub EndsSo : {D G T K S O L : Type 0} → (S → Option (List (ℕ × Segment))) → (S → ℕ) → (sizes firsts : List ℕ) → (starts : List Opening) → (seats : List SeatNote) → (left back : List (Gear D G T K S O)) → Closing L → Type 0
 EndsSo shelved faults sizes firsts starts seats left back closing.Kept = KeepsCuts (AddsCuts shelved) (AreClosed sizes firsts starts seats) left back
 EndsSo shelved faults sizes firsts starts seats left back closing.ShelfFault =

@@ -61,7 +61,7 @@ pub record IsStartedRun {C S O L X : Type 0} (visits : ℕ → Peer → Visit) (
   pub books : List Journal
   pub closed : Closes shelved of.shelf_faults lbs seats books left back closing
 
--- What `IsStartedRun` says of the gears as they were at the start, and of what the run gave back.
+-- `IsStartedRun` for the gears as they were at the start, and those that the run gave back.
 abbrev pub RunsStarted : {D G T K S O L C X : Type 0} → RunTells D T K S O C X → SitePlan → List (Gear D G T K S O) → SiteRun L (Gear D G T K S O) → Type 0
 RunsStarted told plan gears run =
     IsStartedRun (visit plan.cfg.now plan.map.now) told.link told.shelved told.keeps plan.format.now plan.cfg.now.lbs (gears_at told gears) (gears_at told run.gears.items) run.workers run.closing

@@ -33,7 +33,7 @@ worker_side answers told desk clock reach log = record {
   log = log;
 }
 
--- What is told of a worker's shelf and of its log, and whether a read of its clients may wait.
+-- The tellings of a worker's shelf and of its log, and whether a read of its clients may wait.
 pub record Keeps (S Y : Type 0) : Type 1 where
   pub shelved : S → Option (List (ℕ × Segment))
   pub shelf_faults : S → ℕ

@@ -83,14 +83,14 @@ continued r name o entries (line.End count) = Some (record {
 })
 continued r name o entries other = None
 
--- What a line makes of where the reader stands; none where it is out of its place.
+-- The reader after a line, by where it stands; none where the line is out of its place.
 abbrev pub TakesAt : Reader → TextPlace → Line → Option Reader → Type 0
 TakesAt r place.Outside l found = found ≡ begun r l
 TakesAt r place.Ruled l found = found ≡ named r l
 TakesAt r (place.Heading d) l found = Heads r d l found
 TakesAt r (place.Body name o entries) l found = found ≡ continued r name o entries l
 
--- What a line's text makes of it; none where it isn't of the form of a line, or is out of its place.
+-- The reader after a line's text; none where it isn't of the form of a line, or is out of its place.
 abbrev pub TakesText : Reader → (text : List ℕ) → Option Reader → Type 0
 TakesText r text found = MatchOption (line_of r.rules text) (found ≡ None) (λ l. TakesAt r r.place l found)
 

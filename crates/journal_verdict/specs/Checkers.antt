@@ -26,13 +26,13 @@ Advances old text new =
     (done : List Counted) → HasTaken old done
     → (now : List Counted) × HasTaken new now × TakesText (front done old.reader) text (Some (front now new.reader))
 
--- What a line that ends a segment, or doesn't, makes of what the check comes to.
+-- The check after a line that ends a segment, or doesn't.
 abbrev pub Judged : (ended : List Counted) → Check → (some : Bool) → Checker → Type 0
 Judged [] k some new = (new.reader.done ≡ []) × (new.check ≡ k) × (new.some ≡ some)
 Judged (c ∷ []) k some new = (new.reader.done ≡ []) × Leads k c new.check × (new.some ≡ true)
 Judged (c ∷ d ∷ cs) k some new = Unit {0}
 
--- What becomes of the reader that has taken a line, and of what the segment that ended with it, if one did, leads to.
+-- The reader goes on that has taken a line, and so does the check with the segment that ended with it, if one did.
 pub record GoesOn (r : Reader) (k : Check) (some : Bool) (number : ℕ) (new : Checker) : Type 0 where
   pub sound : IsSound new.reader
   pub versions : new.reader.rules ≡ r.rules
@@ -48,7 +48,7 @@ may_end c last = c.some && is_over c.reader last
 abbrev pub RefusesLine : Checker → (text : List ℕ) → TextError → Type 0
 RefusesLine c text e = Refuses c.reader c.number text e
 
--- What is answered at the end of a text whose segments these are; `last` is what stands after its last LF.
+-- The answer at the end of a text whose segments these are; `last` is what stands after its last LF.
 abbrev pub EndsBy : (done : List Counted) → Checker → (last : List ℕ) → Result Verdict TextError → Type 0
 EndsBy done c last (Ok v) = (is_end (front done c.reader) last ≡ true) × IsVerdict done v
 EndsBy done c last (Err (error.Unreadable line)) = (line ≡ c.number) × (is_end (front done c.reader) last ≡ false)

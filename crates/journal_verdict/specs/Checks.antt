@@ -26,7 +26,7 @@ use Rattle.journal_verdict.specs.declared.reached.Reached.{Reached}
 abbrev pub at_first : Reached
 at_first = record { former = None; lines = 0; entries = 0 }
 
--- What is reached after a further segment that ends so.
+-- The place that is reached after a further segment that ends so.
 abbrev pub past : Reached → Counted → Opening → Reached
 past r c ending = record {
   former = Some (c.name, ending);
@@ -53,7 +53,7 @@ Leaves v o es count (Ok ending) = IsLegal v o es × (count ≡ length es) × IsE
 Leaves v o es count (Err w) =
     (w.at ≤ length es) × (IsFirstWrong v o es w.at w.kept w.ruled ⊎ (IsLegal v o es × IsOtherCount (length es) count w))
 
--- What is found of a segment's opening after the former segment's end.
+-- The judgement on a segment's opening after the former segment's end.
 abbrev pub JudgesOpening : Former → Counted → Option Wrong → Type 0
 JudgesOpening former c None = Joins former c
 JudgesOpening former c (Some w) = IsWrongAt former c (1 + w.at) w.kept w.ruled × (1 + w.at < lines_before c)
@@ -63,7 +63,7 @@ abbrev pub LeavesAs : Counted → Result (List ℕ × Opening) Wrong → Type 0
 LeavesAs c (Ok (name, ending)) = (name ≡ c.name) × Leaves c.rules c.opening c.entries c.count (Ok ending)
 LeavesAs c (Err w) = Leaves c.rules c.opening c.entries c.count (Err w)
 
--- What a segment leads to whose opening is right, after this many lines and entries.
+-- The end of a segment whose opening is right, after this many lines and entries.
 abbrev pub Ends : (lines entries : ℕ) → Counted → Check → Type 0
 Ends lines entries c (check.Good q) =
     (ending : Opening) × Leaves c.rules c.opening c.entries c.count (Ok ending)
@@ -72,7 +72,7 @@ Ends lines entries c (check.Bad v) =
     (w : Wrong) × Leaves c.rules c.opening c.entries c.count (Err w)
     × (v ≡ verdict.Bad (lines + (lines_before c + w.at) + 1) w.kept w.ruled)
 
--- What a further segment leads to.
+-- The check after a further segment.
 abbrev pub After : Reached → Counted → Check → Type 0
 After r c (check.Good q) =
     IsRight r.former c × IsFormer q.former × (ending : Opening)
@@ -86,7 +86,7 @@ HasRoom (check.Good q) c =
     IsFormer q.former × (q.lines + length (lines_of c) < 2 ^ 32) × (q.entries + length c.entries < 2 ^ 64)
 HasRoom (check.Bad v) c = Unit {0}
 
--- What a further segment leads to, unless one before it was wrong.
+-- The check after a further segment, unless one before it was wrong.
 abbrev pub Leads : Check → Counted → Check → Type 0
 Leads (check.Good q) c after = After q c after
 Leads (check.Bad v) c after = after ≡ check.Bad v
@@ -107,7 +107,7 @@ abbrev pub IsBad : List Counted → Verdict → Type 0
 IsBad cs (verdict.Good entries) = ⊥
 IsBad cs (verdict.Bad line kept ruled) = IsFirstBad cs line kept ruled
 
--- What these segments come to.
+-- The check of these segments.
 abbrev pub Comes : List Counted → Check → Type 0
 Comes cs (check.Good q) = AreRight None cs q.former × IsFormer q.former × (q.lines ≡ lines_in cs) × (q.entries ≡ entries_in cs)
 Comes cs (check.Bad v) = IsBad cs v

@@ -23,7 +23,7 @@ pub record GoesOn (old new : Journal) (e : Entry) : Type 0 where
   pub entries : new.entries ≡ old.entries ++ e ∷ []
   pub newest : past_of new ≡ e ∷ past_of old
 
--- What is ruled on an entry; with an answer the Book went on by it.
+-- The ruling on an entry; with an answer the Book went on by it.
 abbrev pub RulesOn : Entry → (old new : Journal) → Ruling → Type 0
 RulesOn e old new (ruling.Answer a) =
     RulesAfter old.rules old.opening (past_of old) e (ruling.Answer a) × GoesOn old new (record e { answer = a })
@@ -40,7 +40,7 @@ pub record Replays (old new : Journal) (kept : List Entry) : Type 0 where
   pub opening : new.opening ≡ old.opening
   pub entries : new.entries ≡ kept
 
--- What is found in a list of entries: nothing where the Book went on by each of them, else the first that differs.
+-- The judgement on a list of entries: nothing where the Book went on by each of them, else the first that differs.
 abbrev pub JudgesEntries : (old new : Journal) → List Entry → Option Wrong → Type 0
 JudgesEntries old new es None = IsLegal old.rules old.opening es × Replays old new es
 JudgesEntries old new es (Some w) = IsFirstWrong old.rules old.opening es w.at w.kept w.ruled

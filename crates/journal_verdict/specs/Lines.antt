@@ -26,7 +26,7 @@ pub record RunState : Type 0 where
   pub opening : Opening
   pub entries : List Entry
 
--- What is known after some lines: where the text is read, whether that is among the entries of the run, and the run.
+-- The stand after some lines: where the text is read, whether that is among the entries of the run, and the run.
 pub record Stand : Type 0 where
   pub reader : Reader
   pub run : Option RunState
@@ -63,7 +63,7 @@ pub record TakesHead (s : Stand) (text : List ℕ) (t : Stand) : Type 0 where
   pub agrees : Agrees s.run s.reader.place text
   pub stands : t ≡ headed s read.rules read.place read
 
--- What a line among the entries makes of a run: a further entry, or the segment's end.
+-- A line among the entries of a run is taken: a further entry, or the segment's end.
 abbrev pub TakesEntry : Stand → RunState → Option Line → Stand → Type 0
 TakesEntry s run (Some (line.Entry e)) t =
     IsNext run.rules run.opening (reverse run.entries) e

@@ -59,7 +59,7 @@ DiffersBy run e number (wrong.Unreadable line) = ⊥
 DiffersBy run e number (wrong.Bad line kept ruled) = (line ≡ number) × Differs run.rules run.opening (reverse run.entries) e kept ruled
 DiffersBy run e number wrong.NoMemory = Unit {0}
 
--- What is answered to a count at the end of a segment, and what the run is then.
+-- The answer to a count at the end of a segment, and the run after it.
 abbrev pub EndsRun : RunState → (count number : ℕ) → Run → Result (Unit {0}) FollowError → Type 0
 EndsRun run count number r (Ok done) = (count ≡ length run.entries) × IsRun false r run
 EndsRun run count number r (Err (wrong.Unreadable line)) = ⊥
@@ -108,13 +108,13 @@ pub record IsViewOf (r : Run) (v : FollowView) : Type 0 where
   pub method : v.method ≡ r.method
   pub view : IsPresent r.book.rules r.book.opening (past_of r.book) v.view
 
--- What a machine is after a line of an opening, or between segments, by which the reader came to `read`.
+-- The machine after a line of an opening, or between segments, by which the reader came to `read`.
 abbrev pub AddsHead : Stand → (read : Reader) → (taken : ℕ) → Option Run → Machine → Type 0
 AddsHead s read taken run m =
     read.done ≡ [] → (is_body read.place ≡ false → taken ≡ lines_taken read.place) → HasRun false run s.run
     → IsAt m (headed s read.rules read.place read)
 
--- What is known of these bytes, of which `part` is no line yet.
+-- The knowledge of these bytes, of which `part` is no line yet.
 abbrev pub Knows : Known → (part bytes : List ℕ) → Type 0
 Knows (known.Going m number) part bytes =
     (lines : List (List ℕ)) × IsCut bytes lines part × (s : Stand) × FollowsTo at_first lines s × IsAt m s × (number ≡ length lines + 1)
@@ -125,7 +125,7 @@ abbrev pub is_going : Known → Bool
 is_going (known.Going m number) = true
 is_going (known.Stopped e) = false
 
--- What is answered of what is known, and what is known then: a refusal, again or for want of memory, is what was answered.
+-- The answer by what is known, and what is known then: a refusal, again or for want of memory, is what was answered.
 abbrev pub Answers : (known later : Known) → Result (Unit {0}) FollowError → Type 0
 Answers (known.Going m number) later answer = (later ≡ known.Going m number) × (answer ≡ Ok tt)
 Answers (known.Stopped e) later answer =
@@ -136,7 +136,7 @@ abbrev pub ShowsNone : FollowError → Result (Option FollowView) NoMemory → T
 ShowsNone wrong.NoMemory result = (w : NoMemory) × (result ≡ Err w)
 ShowsNone e result = result ≡ Ok None
 
--- What contracts see of a follower: what it knows, and the bytes that are no line yet.
+-- A follower as contracts see it: what it knows, and the bytes that are no line yet.
 pub record FollowerState : Type 0 where
   pub known : Known
   pub part : List ℕ

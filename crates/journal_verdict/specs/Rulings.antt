@@ -37,12 +37,12 @@ Refuses o p e (call.Admin c) (ruling.Refused code) = IsRefusal o p c code
 Refuses o p e asked ruling.Full = IsAllowed o p e.at asked × (most_numbers < e.seq + length (out o p) + taken_by asked)
 Refuses o p e asked other = ⊥
 
--- What is ruled on an entry whose number and moment are right: the one legal answer, or why there is none.
+-- The ruling on an entry whose number and moment are right: the one legal answer, or why there is none.
 abbrev pub RulesAfter : (v : ℕ) → Opening → List Entry → Entry → Ruling → Type 0
 RulesAfter v o p e (ruling.Answer a) = IsNext v o p (record e { answer = a })
 RulesAfter v o p e other = Refuses o p e e.call other
 
--- What an entry has, and what it ought to have: its number, then its moment, then its answer.
+-- The difference between what an entry has and what it ought to have: its number, then its moment, then its answer.
 abbrev pub Differs : (v : ℕ) → Opening → List Entry → Entry → (kept ruled : Ruling) → Type 0
 Differs v o p e (ruling.Seq kept) ruled = (kept ≡ e.seq) × (ruled ≡ ruling.Seq (next_of o p)) × ¬ (e.seq ≡ next_of o p)
 Differs v o p e (ruling.Moment kept) ruled =

@@ -7,7 +7,7 @@ use Rattle.journal_verdict.specs.declared.ruling.Ruling.TheVariants as ruling
 use Rattle.journal_verdict.specs.declared.ruling.Verdict.{Verdict}
 use Rattle.journal_verdict.specs.declared.ruling.Verdict.TheVariants as verdict
 
--- What a line has, or ought to have, as words.
+-- A ruling in words: what a line has, or ought to have.
 abbrev pub ruling_words : Ruling → List (List ℕ)
 ruling_words (ruling.Answer a) = answer_words a
 ruling_words (ruling.Seq number) = codes "seq" ∷ decimal number ∷ []

@@ -32,7 +32,7 @@ pub record DifferAt (kept ruled : List (List ℕ)) (i : ℕ) (k r : List ℕ) : 
   pub there : slice_get ruled i ≡ Some r
   pub other : ¬ (k ≡ r)
 
--- What was found in two lists of lines is their first difference.
+-- The difference found in two lists of lines is their first.
 abbrev pub IsDifference : (kept ruled : List (List ℕ)) → Wrong → Type 0
 IsDifference kept ruled w =
     (k r : List ℕ) × (w.kept ≡ ruling.Line k) × (w.ruled ≡ ruling.Line r) × DifferAt kept ruled w.at k r
@@ -108,7 +108,7 @@ abbrev pub IsVerdict : List Counted → Verdict → Type 0
 IsVerdict cs (verdict.Good entries) = (last : Former) × AreRight None cs last × (entries ≡ entries_in cs)
 IsVerdict cs (verdict.Bad line kept ruled) = IsFirstBad cs line kept ruled
 
--- What is answered to a text: that it can't be read at a line, or the verdict on its segments.
+-- The answer to a text: that it can't be read at a line, or the verdict on its segments.
 abbrev pub IsChecked : (text : List ℕ) → Result Verdict TextError → Type 0
 IsChecked text (Ok v) = (cs : List Counted) × ReadsText text (readable cs) × IsVerdict cs v
 IsChecked text (Err (error.Unreadable line)) = ReadsText text (unreadable line)

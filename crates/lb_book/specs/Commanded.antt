@@ -63,7 +63,7 @@ commanded_row method common (Command.Recover j) m row = (if j == m then recovere
 abbrev pub IsKnown : (n : ℕ) → Command → Type 0
 IsKnown n c = (subject_of c < n) × TargetExists n c
 
--- What is answered to a command, by what holds of it: each refusal after those before it.
+-- The answer to a command, by what holds of it: each refusal after those before it.
 abbrev pub IsCommanded : Journal → Command → Result Entry (AdminError FullMark) → Type 0
 IsCommanded b c (Ok e) =
     IsDoable b.opening (past_of b) c × (next_number b + tickets_out b + 1 ≤ most_numbers)
@@ -77,7 +77,7 @@ IsCommanded b c (Err (Admin.Full mark)) =
 IsCommanded b c (Err Admin.NoMemory) =
     IsDoable b.opening (past_of b) c × (next_number b + tickets_out b + 1 ≤ most_numbers)
 
--- What the rows say of a command, before there is a number for it.
+-- The judgement of the rows on a command, before there is a number for it.
 abbrev pub IsJudged : (n : ℕ) → List Standing → Standing → Command → FullMark → Result ℕ (AdminError FullMark) → Type 0
 IsJudged n rows d c mark (Ok common) =
     IsKnown n c × HasValues c × (common_commanded c rows d < 2 ^ 32) × (common ≡ common_commanded c rows d)

@@ -45,7 +45,7 @@ pub record DeskState : Type 0 where
   pub met : Option Stray
   pub books : Option (List Journal)
 
--- What a lease names.
+-- The names on a lease: balancer, member and ticket.
 pub record LeaseNote : Type 0 where
   pub lb : ℕ
   pub member : ℕ
@@ -82,7 +82,8 @@ BooksGrow lb gained (Some books) now =
 abbrev pub RisesByOne : (before now : ℕ) → Type 0
 RisesByOne before now = now ≡ min (before + 1) 18446744073709551615
 
--- What never changes, the counts that never fall, and a stray that was met, which stays. Told Books are sound, before a call as after it.
+-- A desk keeps what never changes, its counts, which never fall, and a stray that was met. Told Books are sound, before a
+-- call as after it.
 pub record KeepsDesk (old new : DeskState) : Type 0 where
   pub caller : new.caller ≡ old.caller
   pub sizes : new.sizes ≡ old.sizes

@@ -48,7 +48,7 @@ pub record IsPlain (books : List Journal) (receipts : List Receipt) (held : List
   pub held_out : AreHeld books held
   pub roomy : length receipts + length held ≤ room
 
--- What is told of a desk that has its Books to itself.
+-- A desk that has its Books to itself, as each desk is told.
 abbrev pub plain_state : List Journal → List Receipt → List (ℕ × ℕ) → (strays fulls wides : ℕ) → DeskState
 plain_state books receipts held strays fulls wides = record {
   receipts = receipts;
@@ -103,7 +103,7 @@ pub record IsNewTicket (old new : Journal) (ask : Ask) (m seq : ℕ) : Type 0 wh
   pub before : is_out old.opening (past_of old) seq ≡ false
   pub after : is_out new.opening (past_of new) seq ≡ true
 
--- What a Select's answer means for the tickets.
+-- The tickets after a Select's answer.
 abbrev pub Picks : (old new : Journal) → Ask → (seq : ℕ) → Answer → Type 0
 Picks old new ask seq (answer.Chosen m t how probe) = (t ≡ seq) × IsNewTicket old new ask m seq
 Picks old new ask seq answer.NoMember = Unit {0}

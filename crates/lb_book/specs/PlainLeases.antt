@@ -7,7 +7,7 @@ use Rattle.lb_book.specs.declared.desk.Choice.{Choice}
 use Rattle.lb_book.specs.declared.desk.Choice.TheVariants as choice
 use Rattle.lb_book.specs.declared.plain_desk.PlainLease.{PlainLease}
 
--- What a lease names.
+-- The names on a lease.
 abbrev pub note_of : PlainLease → LeaseNote
 note_of l = record { lb = l.lb; member = l.lease.member; ticket = l.lease.ticket }
 

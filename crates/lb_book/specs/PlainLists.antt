@@ -26,7 +26,7 @@ pub record PlainLists : Type 0 where
 abbrev pub lists : List Journal → List Receipt → (held : List (ℕ × ℕ)) → PlainLists
 lists books receipts held = record { books = books; receipts = receipts; held = held }
 
--- What is told of a desk with these lists and counts.
+-- A desk with these lists and counts, as each desk is told.
 abbrev pub told_of : PlainLists → (fulls wides : ℕ) → DeskState
 told_of l fulls wides = plain_state l.books l.receipts l.held 0 fulls wides
 

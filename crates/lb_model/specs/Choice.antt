@@ -49,7 +49,7 @@ abbrev pub routed : (serving : ℕ → Bool) (redirect : ℕ → Option ℕ) →
 routed serving redirect None = None
 routed serving redirect (Some m) = if serving m then Some (m, how.Sticky) else redirected serving (redirect m)
 
--- What a choice looks at of the members: how many there are, and of each whether it serves the ask, is usable for it or
+-- The members as a choice looks at them: how many there are, and of each whether it serves the ask, is usable for it or
 -- may be revived, its redirect, its distance, its load and its state.
 pub record Seen : Type 0 where
   pub count : ℕ
@@ -132,7 +132,7 @@ IsPickIn v s home force last next answer.NoMember = IsOpenIn s home force × (an
 IsPickIn v s home force last next answer.Forced = is_forced_in s home force ≡ true
 IsPickIn v s home force last next answer.Done = ⊥
 
--- What a journal shows of the members after p.
+-- The members as a journal shows them after p.
 abbrev pub seen : (v : ℕ) → Opening → List Entry → Ask → Seen
 seen v o p ask = record {
   count = members o;

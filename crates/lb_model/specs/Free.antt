@@ -10,7 +10,7 @@ use Rattle.lb_model.specs.declared.state.MemberState.TheVariants as state
 abbrev pub is_in : (set m : ℕ) → Bool
 is_in set m = bit_at set m == 1
 
--- What a member counts as, where the ask's mount disables or stops it.
+-- The activation that counts for a member, where the ask's mount disables or stops it.
 abbrev pub counts_as : Activation → (disabled stopped : Bool) → Activation
 counts_as activation.Active disabled stopped =
     (if stopped then activation.Stopped else (if disabled then activation.Disabled else activation.Active))

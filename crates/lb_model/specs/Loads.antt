@@ -73,13 +73,13 @@ abbrev pub greatest : ℕ → (ℕ → ℕ) → ℕ
 greatest zero f = 0
 greatest (suc n) f = max (greatest n f) (f n)
 
--- What a command leaves of the loads that stood before it.
+-- The loads that a command leaves, by those before it.
 abbrev pub commanded_load : Command → (loads : ℕ → ℕ) (m : ℕ) → ℕ
 commanded_load (command.Update j change) loads m = loads m
 commanded_load (command.Reset j) loads m = if j == m then 0 else loads m
 commanded_load (command.Recover j) loads m = loads m
 
--- What a cut entry leaves of the loads that stood before it.
+-- The loads that a cut entry leaves, by those before it.
 abbrev pub carried : (v : ℕ) → Opening → List Entry → Entry → Call → (loads : ℕ → ℕ) (m : ℕ) → ℕ
 carried v o p e (call.Select ask) loads m = loads m
 carried v o p e (call.Return t w) loads m = loads m
@@ -93,7 +93,7 @@ abbrev pub load_in : Option MemberRow → ℕ
 load_in (Some r) = r.load
 load_in None = 0
 
--- What the last cut entry left to member m, or the opening where there is none.
+-- The load that the last cut entry left to member m, or the opening where there is none.
 abbrev pub base_of : (v : ℕ) → Opening → List Entry → (m : ℕ) → ℕ
 base_of v o [] m = load_in (slice_get o.rows m)
 base_of v o (e ∷ p) m =

@@ -15,7 +15,7 @@ use Rattle.lb_model.specs.declared.member.Activation.TheVariants as activation
 use Rattle.lb_model.specs.declared.member.MemberConfig.{MemberConfig}
 use Rattle.lb_model.specs.declared.opening.Opening.{Opening}
 
--- What an update may change of a member.
+-- The values of a member that an update may change.
 pub record Setting : Type 0 where
   pub factor : ℕ
   pub distance : ℕ
@@ -41,7 +41,7 @@ setting_after change s = record {
   redirect = redirect_after change.redirect s.redirect;
 }
 
--- What a call makes of the setting of member m.
+-- The setting of member m after a command.
 abbrev pub commanded : (m : ℕ) → Command → Setting → Setting
 commanded m (command.Update j change) s = if j == m then setting_after change s else s
 commanded m (command.Reset j) s = s
@@ -93,6 +93,6 @@ common_of o p = multiple_of (each (members o) (λ m. factor_of o p m))
 abbrev pub common_after : Opening → List Entry → Call → ℕ
 common_after o p c = multiple_of (each (members o) (λ m. (called m c (setting_of o p m)).factor))
 
--- What one choice of member m adds to its load.
+-- The unit of member m, which one choice of it adds to its load.
 abbrev pub unit_of : Opening → List Entry → (m : ℕ) → ℕ
 unit_of o p m = common_of o p / factor_of o p m

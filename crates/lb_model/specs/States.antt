@@ -20,7 +20,7 @@ use Rattle.lb_model.specs.declared.state.MemberState.{MemberState}
 use Rattle.lb_model.specs.declared.state.MemberState.TheVariants as state
 use Rattle.lb_model.specs.declared.view.MemberRow.{MemberRow}
 
--- What member m counts as, for an ask after p.
+-- The activation that counts for member m, for an ask after p.
 abbrev pub counted_of : Opening → List Entry → Ask → ℕ → Activation
 counted_of o p ask m = counts_as (activation_of o p m) (is_in ask.disabled m) (is_in ask.stopped m)
 
@@ -46,13 +46,13 @@ abbrev pub is_revived_in : (v : ℕ) (states : ℕ → MemberState) → Opening 
 is_revived_in v states o p ask a m =
     (v == 2) && (is_balanced a && (not (any_of (members o) (λ j. is_usable_in states o p ask j)) && is_revivable_in states o p ask m))
 
--- What a command makes of the state of member m.
+-- The state of member m after a command.
 abbrev pub state_commanded : Command → (m : ℕ) → MemberState → MemberState
 state_commanded (command.Update j change) m s = s
 state_commanded (command.Reset j) m s = (if j == m then state.Ok else s)
 state_commanded (command.Recover j) m s = (if j == m then recovered_state s else s)
 
--- What an entry makes of the state of member m, by its call.
+-- The state of member m after an entry, by its call.
 abbrev pub state_after : (v : ℕ) → Opening → List Entry → Entry → Call → (states : ℕ → MemberState) (m : ℕ) → MemberState
 state_after v o p e (call.Select ask) states m =
     (if chose m e.answer then chosen_state e.seq (states m)

@@ -14,7 +14,7 @@ pub record IsNoteOf (p : Pass) (note : Note) : Type 0 where
   pub origin : note.seat.me.0.origin ≡ (view_of p).origin
   pub seen : note.seat.me.0.seen ≡ (view_of p).seen
 
--- What the pass had seen and what the note has seen are both beginnings of what is then seen, which is the longer of them.
+-- The pass and the note had each seen a beginning of what is then seen, which is the longer of the two.
 pub record Meets (v note w : PassView) : Type 0 where
   pub own_seen : BeginsWith w.seen v.seen
   pub note_seen : BeginsWith w.seen note.seen

@@ -21,7 +21,7 @@ pub record PassDeskState : Type 0 where
   pub desk : DeskState
   pub passes : List Pass
 
--- What a pass knows.
+-- The view that a pass has.
 abbrev pub view_of : Pass → PassView
 view_of p = p.seat.me.0
 
@@ -36,7 +36,7 @@ table_in b = b.table.shared.table_id
 abbrev pub sizes_in : List Pass → List ℕ
 sizes_in passes = map (λ p. members (view_of p).origin.opening) passes
 
--- What is told of the desk of a caller with this number.
+-- The desk of a caller with this number, as each desk is told.
 abbrev pub pass_state : (number : ℕ) (sizes : List ℕ) → List Receipt → List (ℕ × ℕ) → (fulls wides : ℕ) → DeskState
 pass_state number sizes receipts held fulls wides = record {
   receipts = receipts;
@@ -96,7 +96,7 @@ StayPasses [] (q ∷ qs) = ⊥
 StayPasses (p ∷ ps) [] = ⊥
 StayPasses (p ∷ ps) (q ∷ qs) = StaysPass p q × StayPasses ps qs
 
--- What a pass knows of a history: it is a legal one from the opening that the pass knows, what the pass has seen is its beginning,
+-- The standing of a pass in a history: it is a legal one from the opening that the pass knows, what the pass has seen is its beginning,
 -- and the pass's own entries are those of its number in it, each once and in the order of its calls.
 pub record Standing (v : PassView) (h : List Entry) : Type 0 where
   pub history : IsHistory v.origin.opening h

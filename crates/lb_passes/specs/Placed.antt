@@ -14,7 +14,7 @@ use Rattle.lb_passes.specs.declared.pass_view.Origin.{Origin}
 abbrev pub no_table : TableId
 no_table = record { words = 0; slots = 0; views_name = 0; atom = 0; block = 0; offset = 0; slot_names = [] }
 
--- What the history of these passes began with.
+-- The beginning of the history of these passes.
 abbrev pub origin_in : List Pass → Origin
 origin_in [] = no_origin
 origin_in (p ∷ passes) = (view_of p).origin

@@ -87,7 +87,7 @@ next_caller v = record {
   given = 0;
 }
 
--- What splits it off gave one number more.
+-- The caller that splits it off gave one number more.
 abbrev pub giver_after : PassView → PassView
 giver_after v = record {
   origin = v.origin;
@@ -100,7 +100,7 @@ giver_after v = record {
   given = v.given + 1;
 }
 
--- What a note carries: what was seen, and no number.
+-- The view on a note: what was seen, and no number.
 abbrev pub noted : PassView → PassView
 noted v = record {
   origin = v.origin;
@@ -134,7 +134,7 @@ pub record PutTogether (s : Step Journal) (me : Me Journal PassView) (found : �
   pub told : BeginsWith all me.0.met
   pub one : (all ≡ me.0.seen) ⊎ (all ≡ me.0.met)
 
--- What is left of a caller that was joined to another: a view that says nothing.
+-- The rest of a caller that was joined to another: a view that says nothing.
 abbrev pub no_config : LbConfig
 no_config = record {
   method = method.Request;

@@ -62,7 +62,7 @@ pub record IsBookOf (o : Origin) (log : List Entry) (b : Journal) : Type 0 where
   pub counted : b.added ≡ o.added + length log
   pub uncut : o.cut_at ≡ 0 → b.opening ≡ o.opening
 
--- What one caller knows is so.
+-- A caller's view is true.
 pub record ViewFits (o : Origin) (q : Queue) (given : ℕ) (log : List Entry) (v : PassView) : Type 0 where
   pub origin : IsLive v.turn → v.origin ≡ o
   pub seen : BeginsWith log v.seen

@@ -4,7 +4,7 @@ use Rattle.lb_model.specs.declared.member.MemberConfig.{MemberConfig}
 use Rattle.lb_model.specs.declared.view.MemberRow.{MemberRow}
 use Rattle.lb_rules.specs.declared.standing.Standing.{Standing}
 
--- What the opening shows of the member, with its pool, and what one request weighs on it.
+-- The member as the opening shows it, with its pool, and the weight of one request on it.
 abbrev pub opening_row : (unit : ℕ) → MemberConfig → MemberRow → Standing
 opening_row unit c row = record {
   state = row.state;

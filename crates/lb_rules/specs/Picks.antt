@@ -24,7 +24,7 @@ passes_at among rows d ask m = passes among ask m (slice_index_or rows m d)
 abbrev pub home_of : LbConfig → Ask → Option ℕ
 home_of config ask = if config.sticky then member_within (length config.members) ask.routed else None
 
--- What the rows show of the members.
+-- The members as the rows show them.
 abbrev pub seen_at : List Standing → Standing → Ask → Seen
 seen_at rows d ask = record {
   count = length rows;

@@ -6,7 +6,7 @@ use Rattle.lb_model.specs.declared.member.Activation.{Activation}
 use Rattle.lb_rules.specs.declared.standing.Standing.{Standing}
 use Rattle.lb_rules.specs.declared.among.Among.{Among}
 
--- What the member counts as for this ask.
+-- The activation that counts for the member, for this ask.
 abbrev pub counted_row : Ask → ℕ → Standing → Activation
 counted_row ask m row = counts_as row.activation (is_in ask.disabled m) (is_in ask.stopped m)
 

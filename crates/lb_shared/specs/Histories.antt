@@ -81,7 +81,7 @@ pub record SeatSees {S : Type 0} (starts : List Opening) (old new : Me (Option S
   pub number : number_of new.0 ≡ number_of old.0
   pub sees : SeesHold starts (number_of old.0) (seen_of old.0) (seen_of new.0) gained
 
--- What is told of a desk's seat: at which lock it is, its number, and the history that it has seen.
+-- The note of a desk's seat: at which lock it is, its number, and the history that it has seen.
 pub record SeatNote : Type 0 where
   pub lock : TableId
   pub number : ℕ
@@ -132,7 +132,7 @@ pub record IsClosed (starts : List Opening) (seats : List SeatNote) (books : Lis
 abbrev pub IsPresentOf : List Opening → (log : List (ℕ × (ℕ × Entry))) → (lb : ℕ) → ViewNote → Type 0
 IsPresentOf starts log lb v = (o : Opening) → slice_get starts lb ≡ Some o → IsPresent modern_rules o (reverse (entries_of lb log)) v.view
 
--- What a desk did since it had this seat and these receipts: it is at the same lock under the same number. Its receipts were
+-- A desk since it had this seat and these receipts: it is at the same lock under the same number. Its receipts were
 -- only added to, and of its own entries it has seen just those of the added ones besides, in their order.
 pub record HasGone (seat : SeatNote) (receipts : List Receipt) (now : SeatNote) (receipts' : List Receipt) : Type 0 where
   pub lock : now.lock ≡ seat.lock

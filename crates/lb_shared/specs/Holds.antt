@@ -51,7 +51,7 @@ abbrev pub AreShort : (cut_at : ℕ) → List Journal → Type 0
 AreShort cut_at books =
     0 < cut_at → (lb : ℕ) → At books lb (λ b. length b.entries + tickets_out b ≤ cut_at + 1 + pools_of b)
 
--- What a hold changes: the Books, the receipts of the desk that has the lock, and the amount of its share.
+-- The state that a hold changes: the Books, the receipts of the desk that has the lock, and the amount of its share.
 pub record HeldState : Type 0 where
   pub books : List Journal
   pub receipts : List Receipt
@@ -120,7 +120,7 @@ pub record HoldGainsLast (old new : HeldState) (lb session at : ℕ) (last : Rec
   pub gains : HoldGains old new lb session at (due ++ last ∷ [])
   pub maintained : IsMaintained gains.book at due
 
--- What an answer of balancer lb says.
+-- The choice that an answer of balancer lb says.
 abbrev pub IsSiteChoice : (lb : ℕ) → Answer → Choice LeaseNote → Type 0
 IsSiteChoice lb (answer.Chosen m t how probe) c = c ≡ choice.Chosen m (record { lb = lb; member = m; ticket = t })
 IsSiteChoice lb answer.NoMember c = c ≡ choice.NoMember
@@ -183,7 +183,7 @@ CutRefuses sizes firsts cut old new on command e =
     (mid : List Journal) × CutsFirst old.books mid on.lb cut × AreSited sizes firsts mid
     × HoldRefuses (held mid old.receipts old.amount) new on.lb on.session on.at command e
 
--- What was cut, where there was memory for it.
+-- The segment that was cut, where there was memory for it.
 abbrev pub cut_in : {E : Type 0} → Result (Option (ℕ × Segment)) E → Option (ℕ × Segment)
 cut_in (Ok cut) = cut
 cut_in (Err e) = None

@@ -12,7 +12,7 @@ module _ {E : Type 0} where
   abbrev pub by_seat : (number : ℕ) → List E → List (ℕ × E)
   by_seat number entries = map (λ e. (number, e)) entries
 
-  -- What a claim says of the one history: it begins with what was seen, and no later entry is of this seat.
+  -- A claim is true of the one history: it begins with what was seen, and no later entry is of this seat.
   pub record IsClaim (log : List (ℕ × E)) (c : Claim E) : Type 0 where
     pub later : List (ℕ × E)
     pub whole : log ≡ c.seen ++ later
@@ -44,7 +44,7 @@ module _ {E : Type 0} where
     pub claim : get_elem? v.claims k ≡ some c
 
 module _ {S E : Type 0} where
-  -- What holds between any two steps. The word is 0 while the lock is free: then the value is at home, the history says
+  -- The rule between any two steps. The word is 0 while the lock is free: then the value is at home, the history says
   -- what it is, and no seat has it. Else at most one seat has it, and has seen the whole history. Each claim is true of the
   -- history, and no two claims have one number.
   pub record IsKept (tells : List (ℕ × E) → S → Type 0) (s : State (Option S) (View E)) : Type 0 where

@@ -29,7 +29,7 @@ pub record SharedState (S : Type 0) : Type 0 where
   pub met : Option StrayNote
   pub seat : SeatNote
 
--- What is told of its shelf.
+-- The note of its shelf.
 abbrev pub shelf_note : {S : Type 0} → (S → Option (List (ℕ × Segment))) → (S → ℕ) → SharedState S → ShelfNote
 shelf_note shelved faults d = record { shelved = shelved d.shelf; faults = faults d.shelf; wants = d.wants; forgotten = d.forgotten }
 
@@ -38,7 +38,7 @@ abbrev pub stray_in : Option StrayNote → Option Stray
 stray_in None = None
 stray_in (Some note) = Some note.stray
 
--- What this desk tells, as each desk does. The Books behind the lock aren't told.
+-- This desk as each desk is told. The Books behind the lock aren't told.
 abbrev pub shared_desk : (sizes : List ℕ) (parts : ℕ) → List Receipt → (held : List (ℕ × ℕ)) → (amount strays fulls wides : ℕ) → (met : Option Stray) → DeskState
 shared_desk sizes parts receipts held amount strays fulls wides met = record {
   receipts = receipts;
@@ -95,7 +95,7 @@ CutsOrWants sizes cut_at lb cut Wanting = CutsWhen sizes cut_at lb cut ⊎ ((cut
 abbrev pub GoesOnFrom : Segment → (old new : List Receipt) → Type 0
 GoesOnFrom s old new = (r : Receipt) → slice_get new (length old) ≡ Some r → r.entry.seq ≡ s.opening.next + length s.entries
 
--- What a hold of balancer lb cut, if anything: a segment of this balancer, as `CutsOrWants` says, from which the receipts go on.
+-- The segment that a hold of balancer lb cut, if any: of this balancer, as `CutsOrWants` says, from which the receipts go on.
 pub record CutsFor (sizes : List ℕ) (cut_at lb : ℕ) (cut : Option (ℕ × Segment)) (old new : List Receipt) (Wanting : Type 0) : Type 0 where
   pub of : IfSome cut (λ s. s.0 ≡ lb)
   pub when : CutsOrWants sizes cut_at lb cut Wanting

@@ -29,7 +29,7 @@ pub record AdmissionNote : Type 0 where
   pub lb : ℕ
   pub entries : ℕ
 
--- What is told of a desk's shelf: the segments that it kept, how often it failed, and for how many segments it wanted memory;
+-- The note of a desk's shelf: the segments that it kept, how often it failed, and for how many segments it wanted memory;
 -- and how many receipts the desk forgot.
 pub record ShelfNote : Type 0 where
   pub shelved : Option (List (ℕ × Segment))
@@ -47,7 +47,7 @@ added_since None new = []
 added_since (Some old) None = []
 added_since (Some old) (Some new) = drop (length old) new
 
--- What became of the shelf of a desk since it was so: it was only added to. No count fell, and no receipt was forgotten.
+-- The shelf of a desk since it was so: it was only added to. No count fell, and no receipt was forgotten.
 pub record HasShelved (since now : ShelfNote) : Type 0 where
   pub kept : now.shelved ≡ appended since.shelved (added_since since.shelved now.shelved)
   pub no_fewer : since.faults ≤ now.faults

@@ -44,7 +44,7 @@ IsMaintenanceAt lb b at (Ok (Some done)) = (due_moment b ≤ entry_moment b at) 
 IsMaintenanceAt lb b at (Err (room.Full mark)) = (due_moment b ≤ entry_moment b at) × IsFullAt lb 1 b mark
 IsMaintenanceAt lb b at (Err room.NoMemory) = (due_moment b ≤ entry_moment b at) × HasRoom 1 b
 
--- What a command is answered, by what holds of it: each refusal comes after those before it.
+-- The answer to a command, by what holds of it: each refusal comes after those before it.
 abbrev pub IsCommandedAt : {T : Type 0} → (lb : ℕ) → Journal → Command → Result T (AdminError MarkNote) → Type 0
 IsCommandedAt lb b c (Ok done) = IsDoable b.opening (past_of b) c × HasRoom 1 b
 IsCommandedAt lb b c (Err admin.UnknownMember) = ¬ IsKnown (members b.opening) c

@@ -16,7 +16,7 @@ use Rattle.lb_shared.specs.Notes.{MarkNote}
 use Rattle.lb_shared.specs.SharedDesks.{shared_desk}
 use Rattle.lb_shared.specs.declared.locked.HandedBack.{HandedBack}
 
--- What a desk has of the Site: its part of the ledger and the amount that it counts, the receipts with their room and how many
+-- A desk's stake in the Site: its part of the ledger and the amount that it counts, the receipts with their room and how many
 -- were forgotten, the pairs that are held, and its seat at the lock.
 pub record StakeState : Type 0 where
   pub parts : ℕ
@@ -27,7 +27,7 @@ pub record StakeState : Type 0 where
   pub held : List (ℕ × ℕ)
   pub seat : SeatNote
 
--- What is told of a desk with this stake and these counts.
+-- A desk with this stake and these counts, as each desk is told.
 abbrev pub told_of : (sizes : List ℕ) → StakeState → (strays fulls wides : ℕ) → (met : Option Stray) → DeskState
 told_of sizes stake strays fulls wides met = shared_desk sizes stake.parts stake.receipts stake.held stake.amount strays fulls wides met
 

@@ -51,7 +51,7 @@ pub record Faults : Type 0 where
 abbrev pub ReadFails : (old new : Faults) → Type 0
 ReadFails old new = Rose old.files new.files ⊎ Rose old.input new.input
 
--- What is told of all that a command uses: what it may read, what its output was sent, and how often each failed.
+-- All that a command uses, as it is told: what it may read, what its output was sent, and how often each failed.
 pub record PlainSide : Type 0 where
   pub outside : CommandOutside
   pub sent : Option (List ℕ)
@@ -65,7 +65,7 @@ plain_side of_files of_input of_output files input out = record {
   faults = record { files = of_files.faults files; input = of_input.faults input; output = of_output.faults out };
 }
 
--- What each end says of a command that is built.
+-- A command that is built, by each end.
 abbrev pub AnswersSo : (command : Order) → (s n : PlainSide) → PlainEnd → Type 0
 AnswersSo command s n end.Done = Prints command s.outside s.sent n.sent 0
 AnswersSo command s n end.Bad = Prints command s.outside s.sent n.sent 1
@@ -76,7 +76,7 @@ AnswersSo command s n end.InputFault = (n.sent ≡ s.sent) × ReadFails s.faults
 AnswersSo command s n end.OutputFault = PrintsFront command s.outside s.sent n.sent × Rose s.faults.output n.faults.output
 AnswersSo command s n end.NoMemory = (n.sent ≡ s.sent) ⊎ PrintsFront command s.outside s.sent n.sent
 
--- What each end says of an order.
+-- An order, by each end.
 abbrev pub EndsSo : (command : Order) → (s n : PlainSide) → PlainEnd → Type 0
 EndsSo command s n end.NoCommand = (is_plain command ≡ false) × (n.sent ≡ s.sent)
 EndsSo command s n ended = (is_plain command ≡ true) × AnswersSo command s n ended
@@ -85,17 +85,17 @@ EndsSo command s n ended = (is_plain command ≡ true) × AnswersSo command s n 
 abbrev pub IsInputFault : (command : Order) → (s n : PlainSide) → Type 0
 IsInputFault command s n = Rose s.faults.files n.faults.files ⊎ Rose s.faults.input n.faults.input ⊎ EndsWith command s.outside 4
 
--- What is printed of files alone, whatever the input.
+-- The output for files alone, whatever the input.
 abbrev pub PrintsOfFiles : Option (List (List ℕ × List ℕ)) → List Reading → (List (List ℕ) → List ℕ → ℕ → Type 0) → Output → Type 0
 PrintsOfFiles files readings Of o =
     (incoming : Option (List ℕ)) → PrintsOf (record { files = files; incoming = incoming }) readings Of o.text (status_of o.ending)
 
--- What is printed of the input alone, whatever the files.
+-- The output for the input alone, whatever the files.
 abbrev pub PrintsOfInput : Option (List ℕ) → List Reading → (List (List ℕ) → List ℕ → ℕ → Type 0) → Output → Type 0
 PrintsOfInput incoming readings Of o =
     (files : Option (List (List ℕ × List ℕ))) → PrintsOf (record { files = files; incoming = incoming }) readings Of o.text (status_of o.ending)
 
--- What a command prints that reads files alone, and one that reads the input alone.
+-- The output of a command that reads files alone, and of one that reads the input alone.
 abbrev pub PlainOfFiles : Option (List (List ℕ × List ℕ)) → Order → Output → Type 0
 PlainOfFiles files command o = PrintsOfFiles files (readings command) (Answers command) o
 
@@ -106,7 +106,7 @@ PlainOfInput incoming command o = PrintsOfInput incoming (readings command) (Ans
 abbrev pub log_readings : LogNames → List Reading
 log_readings names = File names.request.now ∷ File names.reply.now ∷ File names.workers.now ∷ File names.map.now ∷ []
 
--- What `log` prints, whatever the input.
+-- The output of `log`, whatever the input.
 abbrev pub LogOfFiles : Option (List (List ℕ × List ℕ)) → Order → Output → Type 0
 LogOfFiles files command o =
     (incoming : Option (List ℕ)) → Plain (record { files = files; incoming = incoming }) command o.text (status_of o.ending)

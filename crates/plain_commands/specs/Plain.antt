@@ -26,7 +26,7 @@ is_plain (order.Log format request reply workers map) = true
 is_plain (order.Stop path) = true
 is_plain other = false
 
--- What a command reads, in the order of its words, and its input last.
+-- The readings of a command, in the order of its words, and its input last.
 abbrev pub readings : Order → List Reading
 readings order.Play = Input ∷ []
 readings (order.Config workers None) = File workers ∷ []
@@ -81,7 +81,7 @@ LogOf format texts out status = ⊥
 abbrev pub StopsFront : (answer : List ℕ) → (out : List ℕ) → (status : ℕ) → Type 0
 StopsFront answer out status = (out ≡ []) × (status ≡ (if bytes_eq answer (codes "ended\n") then 0 else 4))
 
--- What a command prints of the texts that it read, and its status.
+-- The output of a command for the texts that it read, and its status.
 abbrev pub Answers : Order → (texts : List (List ℕ)) → (out : List ℕ) → (status : ℕ) → Type 0
 Answers order.Play (script ∷ []) out status = PlaysScript script out status
 Answers (order.Config w None) (workers ∷ []) out status = Reported (ReportsConfig workers) out status
@@ -95,7 +95,7 @@ Answers order.Follow (text ∷ []) out status = FollowsText text out status
 Answers (order.Stop path) (answer ∷ []) out status = StopsFront answer out status
 Answers other texts out status = ⊥
 
--- What is printed of texts, and its status. All are read whole before one is judged; if one is too long, that alone is
+-- The output for texts, and its status. All are read whole before one is judged; if one is too long, that alone is
 -- printed.
 abbrev pub PrintsOf : CommandOutside → List Reading → (List (List ℕ) → List ℕ → ℕ → Type 0) → (out : List ℕ) → (status : ℕ) → Type 0
 PrintsOf outside readings Of out status =
@@ -107,7 +107,7 @@ abbrev pub PrintsLog : CommandOutside → (format : List ℕ) → List Reading �
 PrintsLog outside format readings out status =
     RefusesFormat format out status ⊎ ((parts : List Part) × IsFormat format parts × PrintsOf outside readings (LogOf parts) out status)
 
--- What a command prints, and its status.
+-- The output of a command, and its status.
 abbrev pub Plain : CommandOutside → Order → (out : List ℕ) → (status : ℕ) → Type 0
 Plain outside (order.Log format request reply workers map) out status =
     PrintsLog outside format (File request ∷ File reply ∷ File workers ∷ File map ∷ []) out status

@@ -12,7 +12,7 @@ use Rattle.plain_commands.specs.declared.play.Output.{Output}
 abbrev pub IsPrinted : Result Report NoMemory → Output → Type 0
 IsPrinted made o = (report : Report) × (made ≡ Ok report) × (o.text ≡ report.text) × (status_of o.ending ≡ status_if report.refused)
 
--- What is printed of a session of two texts, over the site of no files or of these.
+-- The output for a session of two texts, over the site of no files or of these.
 abbrev pub PrintsSession : Option (List (List ℕ × List ℕ)) → (request reply : List ℕ) → Option (List ℕ × List ℕ) → Output → Type 0
 PrintsSession files request reply None o = Reported (ReportsDry request reply default_workers default_map) o.text (status_of o.ending)
 PrintsSession files request reply (Some site) o = PrintsOfFiles files (File site.0 ∷ File site.1 ∷ []) (DryOver request reply) o

@@ -71,7 +71,7 @@ pub record Taken (names : List (List ℕ)) (at : ℕ) (line : List ℕ) (moment 
   pub put : after ≡ before ++ part
   pub keeps : Keeps old new
 
--- What a stop says where it isn't want of memory.
+-- The reason of a stop that isn't want of memory.
 abbrev pub Tells : Stop → (ScriptRefusal → Type 0) → Type 0
 Tells (stop.Refused reason) Says = Says reason
 Tells stop.NoMemory Says = Unit {0}
@@ -93,7 +93,7 @@ pub record ShownRows (b : Journal) (before after : List ℕ) : Type 0 where
   pub present : ArePresentRows 2 b.opening (past_of b) (members b.opening) rows
   pub put : after ≡ before ++ row_lines rows
 
--- What the lines print from this one on was added.
+-- The output of the lines from this one on was added.
 pub record AppendsRun (names : List (List ℕ)) (b : Journal) (number at : ℕ) (lines : List (List ℕ)) (status : ℕ) (before after : List ℕ) : Type 0 where
   pub text : List ℕ
   pub put : after ≡ before ++ text

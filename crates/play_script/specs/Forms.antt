@@ -26,7 +26,7 @@ abbrev pub field : List ℕ → Option (List ℕ) → List (List ℕ)
 field key None = []
 field key (Some value) = (key ++ value) ∷ []
 
--- What an update's redirect says, where it is there.
+-- The redirect of an update, where it is there.
 abbrev pub Leads : List (List ℕ) → Option (List ℕ) → Redirect → Type 0
 Leads names None said = said ≡ redirect.Keep
 Leads names (Some text) said = redirect_of names text ≡ Some said

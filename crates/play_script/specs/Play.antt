@@ -41,7 +41,7 @@ pub record AddsCall (o : Opening) (at : ℕ) (p : List Entry) (asked : Call) (e 
   pub session : e.session ≡ 0
   pub moment : e.at ≡ max at (moment_of o p)
 
--- What a call prints, and the entries after it.
+-- The output of a call, and the entries after it.
 abbrev pub AsksFor : List (List ℕ) → Opening → (at : ℕ) → List Entry → Call → (printed : List ℕ) → List Entry → Type 0
 AsksFor names o at p (call.Select ask) printed q =
     (e : Entry) × AddsCall o at p (call.Select ask) e × (printed ≡ answer_line names e.answer) × (q ≡ e ∷ p)
@@ -74,7 +74,7 @@ IsAskRefused o p (call.Return ticket outcome) reason = (is_out o p ticket ≡ fa
 IsAskRefused o p call.Maintain reason = ⊥
 IsAskRefused o p (call.Admin command) reason = IsCommandRefused o p command reason
 
--- What a line prints, and the moment and the entries after it.
+-- The output of a line, and the moment and the entries after it.
 abbrev pub Says : List (List ℕ) → Opening → (at : ℕ) → List Entry → Step → (printed : List ℕ) → (moment : ℕ) → List Entry → Type 0
 Says names o at p (step.At said) printed moment q = (printed ≡ []) × (moment ≡ said) × (q ≡ p)
 Says names o at p (step.Ask asked) printed moment q = (moment ≡ at) × AsksFor names o at p asked printed q
@@ -100,7 +100,7 @@ Takes names o number at p said Rest out status =
     ⊎ ((printed : List ℕ) × (behind : List ℕ) × (moment : ℕ) × (q : List Entry)
     × SaysLine names o at p said printed moment q × (out ≡ printed ++ behind) × Rest moment q behind status)
 
--- What lines print from the balancer's start on; the first line has this number.
+-- The output of lines from the balancer's start on; the first line has this number.
 abbrev pub Runs : List (List ℕ) → Opening → List (List ℕ) → (number at : ℕ) → List Entry → List ℕ → ℕ → Type 0
 Runs names o [] number at p out status = (out ≡ []) × (status ≡ 0)
 Runs names o (line ∷ lines) number at p out status =
@@ -115,7 +115,7 @@ Starts (Some said) draft lines number at out status =
     (IsNoBalancer draft × Stops number refusal.BadBalancer out status)
     ⊎ ((o : Opening) × IsStart draft at o × Runs (names_in draft) o lines number at [] out status)
 
--- What lines print, the first of which has this number, where the lines before it gave this draft of a balancer.
+-- The output of lines, the first of which has this number, where the lines before it gave this draft of a balancer.
 abbrev pub Plays : List (List ℕ) → DraftWords → (number at : ℕ) → List ℕ → ℕ → Type 0
 Plays [] draft number at out status = (out ≡ []) × (status ≡ 0)
 Plays (line ∷ lines) draft number at out status =
@@ -125,7 +125,7 @@ Plays (line ∷ lines) draft number at out status =
     (Starts (step_of (names_in draft) line) draft (line ∷ lines) number at out status)
     (λ said. Plays lines (draft_after said draft) (number + 1) (moment_after said at) out status))
 
--- What a script prints, and the status: 0, or 3 where a line is refused.
+-- The output of a script, and the status: 0, or 3 where a line is refused.
 abbrev pub PlaysScript : List ℕ → List ℕ → ℕ → Type 0
 PlaysScript script out status = Plays (parts_of 10 script) empty_draft 1 0 out status
 

@@ -19,7 +19,7 @@ is_long (Err errors.Failed) = false
 is_long (Err errors.TooLong) = true
 is_long (Err errors.NoMemory) = false
 
--- What the read of a file gave was added to what is kept, under the file's name.
+-- The text that the read of a file gave was added to what is kept, under the file's name.
 pub record Keeps (name : List ℕ) (given : Result (List ℕ) FileError) (old new : List ReadFile) : Type 0 where
   pub read : ReadFile
   pub added : new ≡ old ++ read ∷ []

@@ -2,7 +2,7 @@
 use Rattle.std.specs.Prelude.{◌≡◌, ℕ, Bool, true, false, ◌<◌, ◌≤◌, ◌⊎◌, List, [], ◌∷◌, length, Option, Some, IfSome, IsSomeAnd}
 use Rattle.jk_io.specs.Stored.{content_of}
 
--- What a command may read: files, each a name and a content, and an input; of the real ones nothing is told.
+-- The outside that a command may read: files, each a name and a content, and an input; of the real ones nothing is told.
 pub record CommandOutside : Type 0 where
   pub files : Option (List (List ℕ × List ℕ))
   pub incoming : Option (List ℕ)
@@ -25,7 +25,7 @@ has_input [] = false
 has_input (File name ∷ readings) = has_input readings
 has_input (Input ∷ readings) = true
 
--- What is read before the input.
+-- The readings before the input.
 abbrev pub before_input : List Reading → List Reading
 before_input [] = []
 before_input (File name ∷ readings) = File name ∷ before_input readings
@@ -40,7 +40,7 @@ IsThere outside Input text = IfSome outside.incoming (λ incoming. text ≡ inco
 abbrev pub IsRead : CommandOutside → Reading → List ℕ → Type 0
 IsRead outside reading text = IsThere outside reading text × (length text ≤ 67108864)
 
--- What is there has too many bytes, where that is told.
+-- The text there has too many bytes, where that is told.
 abbrev pub IsLong : CommandOutside → Reading → Type 0
 IsLong outside (File name) = IfSome outside.files (λ files. IsSomeAnd (content_of files name) (λ text. 67108864 < length text))
 IsLong outside Input = IfSome outside.incoming (λ incoming. 67108864 < length incoming)

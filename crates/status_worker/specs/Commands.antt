@@ -30,7 +30,7 @@ pub record IsNamed (cfg : Config) (name : List ℕ) (place : ℕ) (lb : Lb) : Ty
   pub named : named_among name cfg.listed ≡ Some (named.Balancer place)
   pub stands : slice_get cfg.lbs place ≡ Some lb
 
--- What the command asks for: the commands of a balancer, in order, where its names are those of a balancer and its members;
+-- The work of a command: the commands of a balancer, in order, where its names are those of a balancer and its members;
 -- or none, where the page is of all.
 abbrev pub IsWorkFor : Config → StatusCommand → Work → Type 0
 IsWorkFor cfg c work =
@@ -38,7 +38,7 @@ IsWorkFor cfg c work =
     ⊎ ((name : List ℕ) × (place : ℕ) × (lb : Lb) × (worker_of c ≡ Some name) × IsNamed cfg name place lb
     × (work.only ≡ Some place) × (commands_for lb.book.members c ≡ Some work.commands))
 
--- What the query asks for, where the status worker is open and may do it.
+-- The work of a query, where the status worker is open and may do it.
 abbrev pub AsksOpen : Config → Status → (query : Option (List ℕ)) → Work → Type 0
 AsksOpen cfg status query work = (c : StatusCommand) × (meaning_of query ≡ Some c) × IsAllowed status c × IsWorkFor cfg c work
 
@@ -120,7 +120,7 @@ TurnsAway cfg session status query s n why =
     (IsRefused cfg status query why × (n ≡ s))
     ⊎ ((work : Work) × (error : AdminError FullMark) × Asks cfg status query work × StopsAt session work s n error × (refusal_by error ≡ Some why))
 
--- What was asked was done whole.
+-- All that was asked was done.
 abbrev pub IsDone : Config → (session : ℕ) → Status → (query : Option (List ℕ)) → DeskSide → DeskSide → (only : Option ℕ) → Type 0
 IsDone cfg session status query s n only =
     (work : Work) × Asks cfg status query work × WorksOn session work s n × (only ≡ work.only)
