@@ -126,7 +126,7 @@ oldest most m (k ∷ past) bytes (before, last, s, p, whole) =
       joined = whole ∙ ap (λ (b : List ℕ). b ++ last) o.joined ∙ append_assoc o.first o.rest last;
     }
 
--- What comes next where a front was read of the bytes of a reply: one more of its messages, at the same place.
+-- The next message where a front was read of the bytes of a reply: one more of its messages, at the same place.
 pub record Follows (most : ℕ) (all past : List Message) (came reply rest : List ℕ) : Type 0 where
   pub message : Message
   pub later : List Message

@@ -193,7 +193,7 @@ refused_at Whole payload Extra at end bad = bad refl
 refused_at Whole payload TooMany at end bad = bad refl
 refused_at Whole payload Absent at end bad = bad refl
 
--- What is whole is read, so bytes whose reading always fails begin nothing whole.
+-- Whole bytes are read, so bytes whose reading always fails begin nothing whole.
 pub stops-refused : {A : Type 0} (Whole : List ℕ → Type 0) (read : List ℕ → Result A Refusal) (payload : List ℕ) (r : Refusal)
     → ((bytes : List ℕ) → Whole bytes → Fails (read bytes) → ⊥) → Stops Whole read payload r → IsRefused Whole payload (error_at r.kind (length payload - r.left))
 stops-refused Whole read payload r whole_reads s =

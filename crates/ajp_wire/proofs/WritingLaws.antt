@@ -32,7 +32,7 @@ name-place code (known ∷ table) name =
       ]
     ]
 
--- What is written of a header spells it, its name as the table spells it.
+-- The bytes written of a header spell it, its name as the table spells it.
 pub header-spelled : (table : List (List ℕ)) (absent_names : Bool) (header : List ℕ × List ℕ) → FitsHeader header
     → SpellsHeader table absent_names (header_as_read table header) (header_bytes table header)
 header-spelled table absent_names header fits =

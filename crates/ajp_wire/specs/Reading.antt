@@ -18,7 +18,7 @@ abbrev pub ◌>>=◌ : {A B : Type 0} → Result A Refusal → (A → Result B R
 (Ok x) >>= f = f x
 (Err e) >>= f = Err e
 
--- What a function answered, seen by view, is what reading gives, unless memory was wanted.
+-- A function's answer, seen by view, is that of reading, unless memory was wanted.
 abbrev pub Halts : {Y : Type 0} → NotRead → Result Y Refusal → Type 0
 Halts why.NoMemory read = Unit {0}
 Halts (why.Refused r) read = read ≡ Err r
@@ -45,7 +45,7 @@ abbrev pub told : ℕ → NotRead → DecodeError
 told len why.NoMemory = errors.NoMemory
 told len (why.Refused r) = error_at r.kind (len - r.left)
 
--- What a decoder answered for a payload of this length is what reading gives, unless memory was wanted.
+-- A decoder's answer for a payload of this length is that of reading, unless memory was wanted.
 abbrev pub Tells : {X : Type 0} → ℕ → Result X DecodeError → Result X Refusal → Type 0
 Tells len (Ok x) read = read ≡ Ok x
 Tells len (Err errors.NoMemory) read = Unit {0}

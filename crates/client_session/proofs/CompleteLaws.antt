@@ -110,7 +110,7 @@ whole_over q s n s' n' t all w talks talks' data_is taken most reach client stra
   strays = λ rose. w.strays (strays rose);
 }
 
--- What is the same where 100 Continue was written after the head.
+-- The standing after 100 Continue: desk, reach and faults are the same, and the rest is unread.
 record IsBegun (s told : ClientStanding) (rest : List ℕ) : Type 0 where
   pub desk : told.desk ≡ s.desk
   pub reach : told.reach ≡ s.reach
@@ -127,7 +127,7 @@ begun v s read told head rest reads left on = record {
       ∙ ap (λ o. unread read.inbox o) on.written.puts.incoming ∙ left;
 }
 
--- What is the same after the exchange, where no more is done than reading the rest of the body.
+-- The standing after the exchange, where no more is done than reading the rest of the body.
 record IsAfter (n e : ClientStanding) : Type 0 where
   pub desk : e.desk ≡ n.desk
   pub reach : e.reach ≡ n.reach
@@ -278,7 +278,7 @@ rest_of fresh body rest before left taken told takes whole below =
       below = omega (arith, below, size, takes.counted, takes.most);
     }
 
--- What is known where the answer was whole: the rest of the body can be read, and the client's faults are no fewer.
+-- The standing after a whole answer: the rest of the body can be read, and the client's faults are no fewer.
 record IsReadable (s mid : ClientStanding) (body : BodyIn) : Type 0 where
   pub rest : HasRest body (unread_at mid)
   pub no_fewer : s.client.faults ≤ mid.client.faults

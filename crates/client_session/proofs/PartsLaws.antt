@@ -261,7 +261,7 @@ parts_of v (suc number) s n rows (mid, before, last, date, timed, served, reads,
 
 -- ---- the request that ended the session
 
--- What was written to the client and noted, of which this is said.
+-- The bytes that were written to the client and noted, of which this is said.
 pub record Ends (Said : List Talk → List ℕ → Type 0) (s n : ClientStanding) : Type 0 where
   pub bytes : List ℕ
   pub talks : List Talk

@@ -29,9 +29,9 @@ pub record IsWholeSession {B K R C X : Type 0} (state : B → DeskState) (answer
   pub met : MeetsBy end.stop (state s.desk.now) (state n.desk.now)
   pub kept : KeepsAround state of_reach of_client v s n
 
--- What follows of each session that ends so: an own answer has a cause for each status, and a refusal its reason; the client's bytes decide what they
--- can; and a request that nothing disturbs is answered with exactly its member's reply, whether the session goes on after it
--- or not.
+-- The facts of each session that ends so: an own answer has a cause for each status, and a refusal its reason; the client's
+-- bytes decide what they can; and a request that nothing disturbs is answered with exactly its member's reply, whether the
+-- session goes on after it or not.
 pub record HoldsOfEach (v : Visit) (end : SessionEnd) : Type 0 where
   pub own : InEachSession v end IsOwnCaused
   pub by_bytes : InEachSession v end IsDecided

@@ -11,7 +11,7 @@ use Rattle.lb_shared.specs.Sites.{AddsAt, At}
 pub adds_same : (old new : List Journal) (lb session at : ℕ) (asked : Call) (r : Receipt) → AddsAt old new lb session at asked r → length new ≡ length old
 adds_same old new lb session at asked r h = ap length h.grown ∙ length-set old lb _
 
--- What holds of the one Book holds of each.
+-- A fact of the one Book is one of each.
 pub of_the_one : (book : Journal) (P : Journal → Type 0) → P book → (lb : ℕ) → At (book ∷ []) lb P
 of_the_one book P holds zero b found = let same : book ≡ b = cc in subst P same holds
 of_the_one book P holds (suc lb) b found = absurd cc

@@ -311,7 +311,7 @@ answer-ends app f data' stays =
     let r = (answer-whole app f data' (application_of app f) stays).3 in
     record { before = Headers r.head ∷ map Chunk r.chunks; plain = chunks-plain r.chunks; whole = r.whole }
 
--- What the connector heard: the answer with these data, after an ask for each of some pieces.
+-- The bytes that the connector heard: the answer with these data, after an ask for each of some pieces.
 pub record Heard (app : AppConfig) (f : Forward) (behind : List ℕ) (past : List Message) : Type 0 where
   pub first : List ℕ
   pub pieces : List (List ℕ)

@@ -70,7 +70,7 @@ pub back_put : (table : TableId) (o : Origin) (given : ℕ) (ps ps' : List Pass)
     → AreEachBack table o given ps'
 back_put table o given ps ps' p are more is = subst (λ (qs : List Pass). AreEachBack table o given qs) (sym more) (back_more table o given ps p are is)
 
--- What was written through a slice of a whole list is the list after it.
+-- The items that were written through a slice of a whole list are the list after it.
 pub written_back : {X : Type 0} → (n : ℕ) (new rest : List X) → n ≡ length new → take n (new ++ rest) ≡ new
 written_back n new rest all = subst (λ (k : ℕ). take k (new ++ rest) ≡ new) (sym all) (take-append_seam new rest)
 

@@ -19,7 +19,7 @@ use Rattle.exchange.specs.declared.ending.ExchangeEnd.{ExchangeEnd}
 use Rattle.exchange.specs.declared.ending.ExchangeEnd.TheVariants as exchange_end
 use Rattle.exchange.proofs.EarlyLaws.{IsEarly, bad_held, final_of_round, rose_by_one}
 
--- What rounds that were gone through do with a desk: they add receipts, and no count of it rises.
+-- Rounds that were gone through extend a desk: they add receipts, and no count of it rises.
 pub record Extends (old new : DeskState) : Type 0 where
   pub gained : List Receipt
   pub receipts : new.receipts ≡ old.receipts ++ gained

@@ -551,7 +551,7 @@ cut_gone q first plan s b n opened closed keep moved early gone =
     cut_before (data_at s.body) (piece_len q) (asked plan.piece gone.past) false
     (subst (λ (told : Option Data). IfSome told (λ d. (reaches (asked plan.piece gone.past) d ≡ false) × (d.bad ≡ false))) early.left (gone.ended refl).2)
 
--- What the last round gives, by the end of the exchange.
+-- The client after the last round, by the end of the exchange.
 gives_last : (q : Errand) (first : List ℕ) (s a m n : Scene) (past : List Round) (end : ExchangeEnd) → IsEarly q first s.around a.around → Extends s.desk a.desk
     → EndsIn q first past a m n end → Gives q s n end
 gives_last q first s a m n past (exchange_end.Done member told) early extends (r, round, is, has, rest) =

@@ -276,7 +276,7 @@ no_talk before later t now then after first same =
     let lists : before ++ t ∷ later ≡ before = cc in
     omega (arith, ap (λ (ts : List Talk). length ts) lists, length-append before (t ∷ later))
 
--- What the only round comes to.
+-- The only round and its end.
 abbrev IsRunOf : (q : Errand) (s n : Scene) (t : Talk) (all : List Message) → HasWhole q s n t all → (b m : Around) (member : ℕ) → Ran → Type 0
 IsRunOf q s n t all has b m member ran_is.TooLarge = ⊥
 IsRunOf q s n t all has b m member (ran_is.Wanted bytes) = Unit {0}

@@ -98,7 +98,7 @@ after_none note numbers old new lb session at ask v kept (no_lease_as.wanted fol
 
 -- ---- a lease that was given out and handed back
 
--- What was gained, and then this besides.
+-- Two gains, one after the other.
 gained_twice : (old mid new : DeskState) (first second : List Receipt) → mid.receipts ≡ old.receipts ++ first → new.receipts ≡ mid.receipts ++ second
     → new.receipts ≡ old.receipts ++ (first ++ second)
 gained_twice old mid new first second begun more = more ∙ ap (λ (rs : List Receipt). rs ++ second) begun ∙ append_assoc old.receipts first second

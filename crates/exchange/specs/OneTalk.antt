@@ -23,7 +23,7 @@ use Rattle.jk_io.specs.declared.traits.streams.Awaited.TheVariants as awaited
 use Rattle.site_config.specs.Limits.{dial_limit, each_pong_limit, first_pong_limit, keeps_alive}
 use Rattle.site_config.specs.declared.endpoint.Endpoint.{Endpoint}
 
--- What is known between two talks: the talks that the reach noted and its count of faults, the client, and the request's
+-- The moment between two talks: the talks that the reach noted and its count of faults, the client, and the request's
 -- body.
 pub record Around : Type 0 where
   pub talks : Option (List Talk)

@@ -30,7 +30,7 @@ use Rattle.exchange.specs.Talks.{HasRun}
 use Rattle.exchange.specs.declared.ending.Ran.{Ran}
 use Rattle.exchange.specs.declared.ending.Ran.TheVariants as ran_is
 
--- What is known between two rounds: the desk, the clock's answers to come, and all that is known between two talks.
+-- The moment between two rounds: the desk, the clock's answers to come, and the moment between two talks.
 pub record Scene : Type 0 where
   pub desk : DeskState
   pub clock : Option (List ℕ)
@@ -148,8 +148,9 @@ pub record IsReceiptOf (lb session : ℕ) (r : Receipt) : Type 0 where
   pub caller : r.entry.session ≡ session
   pub kind : IsAskOrReturn r.entry.call
 
--- What never changes of a desk, its counts, which never fall, and the receipts that it gained. No command was too wide, since
--- none is asked for. Told Books stay sound. Unless a stray was met, each ticket that was given out came back.
+-- A desk after calls of an exchange: what never changes of it, its counts, which never fall, and the receipts that it gained.
+-- No command was too wide, since none is asked for. Told Books stay sound. Unless a stray was met, each ticket that was given
+-- out came back.
 pub record IsDeskAfter (lb session : ℕ) (old new : DeskState) : Type 0 where
   pub caller : new.caller ≡ old.caller
   pub sizes : new.sizes ≡ old.sizes

@@ -51,7 +51,7 @@ pub on_err_then : {T E : Type 0} (r : Result T E) (P Q : Type 0) → OnErr r P �
 on_err_then (Ok x) P Q is then = is
 on_err_then (Err e) P Q is then = then is
 
--- What was done with the shelf at the first place was done with that of the first gear.
+-- A fact of the shelf at the first place is one of the first gear's shelf.
 pub to_first : {D G T K S O : Type 0} (Kept : S → S → Type 0) (gears : List (Gear D G T K S O)) (x : Gear D G T K S O) (shelf : S)
     → 0 < length gears → Kept (get_or gears 0 x).shelf shelf → ToFirst Kept gears (set gears 0 (record (get_or gears 0 x) { shelf = shelf }))
 to_first Kept [] x shelf some kept = absurd (omega (arith, some))

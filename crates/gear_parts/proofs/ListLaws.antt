@@ -10,7 +10,7 @@ pub map_map : {X Y Z : Type 0} (g : Y → Z) (f : X → Y) (xs : List X) → map
 map_map g f [] = refl
 map_map {Z = Z} g f (x ∷ xs) = ap (λ (zs : List Z). g (f x) ∷ zs) (map_map g f xs)
 
--- What holds of what each is mapped to, holds of each so.
+-- A fact of all that a list is mapped to is one of each of its items.
 pub all_of_map : {X Y : Type 0} (P : X → Type 0) (f : Y → X) (ys : List Y) → All P (map f ys) → All (λ (y : Y). P (f y)) ys
 all_of_map {Y = Y} P f [] all = All-nil (λ (y : Y). P (f y))
 all_of_map {Y = Y} P f (y ∷ ys) all =

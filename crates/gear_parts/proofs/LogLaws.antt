@@ -24,7 +24,7 @@ log_on {O} Is number logs more suited place put =
     subst (λ (items : List O). AreSuited Is 0 items) (sym put.added)
     (suited_and Is 0 logs put.item suited (subst (λ (n : ℕ). Is n put.item) at put.is))
 
--- What stands at a place of a list was changed.
+-- A list whose item at a place was changed.
 take_set : {X : Type 0} (xs : List X) (i : ℕ) (x : X) → i < length xs → take (suc i) (set xs i x) ≡ take i xs ++ x ∷ []
 take_set [] i x lt = absurd (omega (arith, lt))
 take_set (y ∷ xs) zero x lt = refl

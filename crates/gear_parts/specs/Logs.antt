@@ -18,6 +18,6 @@ pub record LogTells (Y : Type 0) : Type 1 where
 abbrev pub log_tells : {Y : Type 0} → (Y → List Served → Y → Type 0) → (Y → Peer → Y → Type 0) → (Y → Option IoError) → (Y → ℕ) → LogTells Y
 log_tells gained greets broken_by faults = record { gained = gained; greets = greets; broken_by = broken_by; faults = faults }
 
--- What is broken by a fault now was so before, or the faults rose.
+-- A log that is broken by a fault now was so before, or the faults rose.
 abbrev pub BreaksLoudly : (before after : Option IoError) → (faults faults' : ℕ) → Type 0
 BreaksLoudly before after faults faults' = after ≡ Some io.Failed → (before ≡ Some io.Failed) ⊎ Rose faults faults'

@@ -23,7 +23,7 @@ use Rattle.jk_server.specs.declared.runs.ends.Closing.{Closing}
 use Rattle.jk_server.specs.declared.runs.ends.Closing.TheVariants as closing
 use Rattle.jk_server.specs.Shelved.{AreClosed, EndsSo, IsDiscordAt, KeepsCuts}
 
--- What was done with the first gear's shelf, said of what the gears tell.
+-- The first gear's shelf, kept, told of the gears.
 pub first_kept : {D G T K S O C : Type 0} (at : D → DoorSide C) (talks : T → Option (List Talk)) (answers : K → Option (List ℕ)) (Kept : S → S → Type 0)
     (left back : List (Gear D G T K S O)) → ToFirst Kept left back → KeepsFirst Kept (map (gear_side at talks answers) left) (map (gear_side at talks answers) back)
 first_kept at talks answers Kept [] back kept = absurd kept
@@ -44,7 +44,7 @@ first_weaker P Q [] back then is = absurd is
 first_weaker P Q (x ∷ left) [] then is = absurd is
 first_weaker P Q (x ∷ left) (y ∷ back) then is = (then x.shelf y.shelf is.0, is.1, is.2)
 
--- What the Books were at the end, said of the configuration.
+-- The Books at the end, told of the configuration.
 ended_said : (lbs : List Lb) (sizes firsts : List ℕ) (starts : List Opening) (seats : List SeatNote) (at : ℕ) (begun books : List Journal)
     → sizes ≡ sizes_of lbs → firsts ≡ firsts_of lbs → starts ≡ starts_of begun → AreStarts lbs at 0 begun
     → AreClosed sizes firsts starts seats books → AreEnded lbs seats books
@@ -58,7 +58,7 @@ ended_said lbs sizes firsts starts seats at begun books same_sizes same_firsts s
   closed = subst (λ (os : List Opening). IsWhole os seats books) same_starts closed.history;
 }
 
--- What a closing says of the Books of a Site, said of the configuration.
+-- A closing of a Site's Books, told of the configuration.
 kept_said : {D G T K S O C : Type 0} (at : D → DoorSide C) (talks : T → Option (List Talk)) (answers : K → Option (List ℕ)) (Kept Said : List Journal → S → S → Type 0)
     (Ended Are : List Journal → Type 0) (left back : List (Gear D G T K S O))
     → ((books : List Journal) → Ended books → Are books)

@@ -61,7 +61,7 @@ have_served visits told of format number (b ∷ before) [] seats ends served = a
 have_served visits told of format number (b ∷ before) (a ∷ after) [] ends served = absurd served
 have_served visits told of format number (b ∷ before) (a ∷ after) (s ∷ seats) [] served = absurd served
 
--- What the one history has of each desk is what its worker's sessions were told.
+-- The entries of each desk in the one history are those that its worker's sessions were told.
 told_each : {C S Y : Type 0} (log : List (ℕ × (ℕ × Entry))) (seats : List SeatNote) (workers : List (List (Run C S Y)))
     → All (λ s. own_in s.number log ≡ own_in s.number s.seen) seats
     → AllZip (λ (s : SeatNote) (runs : List (Run C S Y)). own_in s.number s.seen ≡ noted (told_in runs)) seats workers

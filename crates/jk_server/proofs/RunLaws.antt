@@ -158,7 +158,7 @@ pub rose_loud : (was before now : Option IoError) (faults faults' : ℕ) → was
     → BreaksLoudly before now faults faults' → now ≡ Some io.Failed → Rose faults faults'
 rose_loud was before now faults faults' sound calm loud broke = rose_of was before faults faults' sound calm (loud broke)
 
--- What a worker makes of its session, by what broke its log.
+-- A worker after its session, by the error that broke its log.
 pub settles_so : {S Y L : Type 0} → (of : Keeps S Y) (from to : WorkerSide S Y) (n : SharedState S) (end : SessionEnd) (broken : Option IoError) (settled' : Option (WorkerEnd L))
     → of.log.broken_by to.log ≡ broken → (broken ≡ Some io.Failed → Rose (of.log.faults from.log) (of.log.faults to.log))
     → SettlesBy broken of.shelf_faults from.desk to.desk n end.stop settled' → Settles of from to n end settled'

@@ -10,7 +10,7 @@ use Rattle.jk_server.specs.Rooms.{HasRoom, HasSpace, PutsLeft}
 use Rattle.jk_server.specs.declared.part.WorkerEnd.{WorkerEnd}
 use Rattle.jk_server.specs.declared.part.Ran.{Ran}
 
--- What was done in each slot, by their numbers.
+-- The slots by their numbers, with all that was done in each.
 pub done_of : {Q : Type 0} → (Did : ℕ → Q → Q → Type 0) (n : ℕ) (before after : List Q) → length after ≡ length before
     → ((i : ℕ) (d : Q) → i < length before → Did (n + i) (slice_index_or before i d) (slice_index_or after i d)) → AreDone Did n before after
 done_of Did n [] [] len did = tt
@@ -30,7 +30,7 @@ done_back {Q} Did before lent new after same written len did =
     (subst (λ (qs : List Q). AreDone Did 0 lent qs) (sym written)
     (done_of Did 0 lent new len (λ i d lt. subst (λ (k : ℕ). Did k (slice_index_or lent i d) (slice_index_or new i d)) (omega arith) (did i d lt))))
 
--- What was done in each slot, and what was left of it then.
+-- The slots, with all that was done in each and was left of it then.
 pub each_done : {Q G V E : Type 0} → (Did : ℕ → Q → Q → Type 0) (Leaves : Q → G → V → E → Type 0) (n : ℕ) (before after : List Q) (gs : List G) (ls : List V) (es : List E)
     → AreDone Did n before after → AllFour Leaves after gs ls es → AreEach (DoneAndLeft Did Leaves) n before gs ls es
 each_done Did Leaves n [] [] [] [] [] did left = tt
@@ -125,6 +125,6 @@ pub may_work : {Q : Type 0} → (Fits : Q → Type 0) (lent slots : List Q) (mos
     → (i : ℕ) (d : Q) → i < length lent → (i < most) × Fits (slice_index_or lent i d)
 may_work Fits lent slots most same few fit i d lt = (omega (arith, lt, few, ap length same), each_of Fits lent slots same fit i d lt)
 
--- What was written through the slice of all slots is as long.
+-- The items that were written through the slice of all slots are as many.
 pub as_long_back : {Q : Type 0} → (n : ℕ) (lent slots new rest : List Q) → n ≡ length slots → lent ≡ slots → length new ≡ length lent → take n (new ++ rest) ≡ new
 as_long_back n lent slots new rest whole same len = written_back n new rest (whole ∙ sym (ap length same) ∙ sym len)

@@ -69,7 +69,7 @@ starts_told {C = C} {X = X} at talks answers lock sizes pools watch format start
     ∙ map_map (start_side at talks answers) (start_of lock sizes pools watch format) gears
     ∙ begun_told X at talks answers lock sizes pools watch format gears
 
--- What is so of each start is so of the parts.
+-- A fact of each start is one of the parts.
 pub starts_are : {P D G T K S O X : Type 0} → (lock : TableId) (sizes pools : List ℕ) (watch : Option Watch) (format : List FormatPart) (Q : Start D G T K S O X → Type 0)
     (start : P → Start D G T K S O X) (parts : List P) (gears : List (Gear D G T K S O))
     → map start parts ≡ map (start_of lock sizes pools watch format) gears → All (λ (g : Gear D G T K S O). Q (start_of lock sizes pools watch format g)) gears
@@ -94,7 +94,7 @@ begins_seated lock d is = (
 pub one_part : (was now : Option ℕ) (n : ℕ) → now ≡ Some n → now ≡ was → was ≡ Some 1 → n ≡ 1
 one_part was now n is same one = cc
 
--- What the workers did and how the closing ended, from the start.
+-- The run from its start: its workers, each with its end, and its closing.
 pub run_done : {C S O L X : Type 0} → (visits : ℕ → Peer → Visit) (told : Ghosts C X) (shelved : S → Option (List (ℕ × Segment))) (of : Keeps S (Option (LogState O))) (format : List FormatPart) (lbs : List Lb)
     (begun left back : List (GearSide C S O)) (seats : List SeatNote) (ends ends' : List (WorkerEnd L)) (closing : Closing L)
     → AreServedGears visits told of format 0 begun left seats ends → ends' ≡ ends → (books : List Journal) × Closes shelved of.shelf_faults lbs seats books left back closing

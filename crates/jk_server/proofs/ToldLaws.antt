@@ -37,7 +37,7 @@ pub record WasTold (old new : SeatNote) (receipts : List Receipt) : Type 0 where
   pub number : new.number ≡ old.number
   pub own : own_in old.number new.seen ≡ own_in old.number old.seen ++ noted receipts
 
--- What a desk that had seen nothing has seen as its own, at the seat that it left.
+-- The own entries of a desk that had seen nothing, at the seat that it left.
 pub told_left : (s n left : SeatNote) (receipts : List Receipt) → WasTold s n receipts → s.seen ≡ [] → left ≡ n → own_in left.number left.seen ≡ noted receipts
 told_left s n left receipts was none same =
     subst (λ (t : SeatNote). own_in t.number t.seen ≡ noted receipts) (sym same)

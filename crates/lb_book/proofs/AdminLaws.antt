@@ -30,7 +30,7 @@ pub commanded_by : (b : Journal) (c : Command) (r : Result Entry (AdminError Ful
 commanded_by b c (Ok e) x fails same is = cc
 commanded_by b c (Err e) x fails same is = subst (λ (y : AdminError FullMark). IsCommanded b c (Err y)) (sym same) is
 
--- What a refusal without a number says of the Book.
+-- The Book at a refusal without a number.
 refused : (b : Journal) (c : Command) (mark : FullMark) (common : ℕ) (e : AdminError FullMark) (n : ℕ) (rows : List Standing)
     → n ≡ members b.opening → common_commanded c rows nobody ≡ common_after b.opening (reverse b.entries) (Call.Admin c)
     → IsMarked (next_number b) (tickets_out b) mark

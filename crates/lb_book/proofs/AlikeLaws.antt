@@ -46,7 +46,7 @@ use Rattle.lb_model.specs.declared.state.MemberState.{MemberState}
 use Rattle.lb_model.specs.declared.state.MemberState.TheVariants as state
 use Rattle.lb_model.specs.declared.view.MemberRow.{MemberRow}
 
--- What a pick and a next entry look at is the same after p and after q.
+-- Two histories are alike to a pick and to a next entry: each looks at the same after p and after q.
 pub record Alike (v : ℕ) (o : Opening) (p : List Entry) (o' : Opening) (q : List Entry) : Type 0 where
   pub count : members o' ≡ members o
   pub balances : o'.config.method ≡ o.config.method
@@ -353,7 +353,7 @@ module _ (v : ℕ) (o : Opening) (p : List Entry) (o' : Opening) (q : List Entry
       ∙ ap (λ (n : ℕ). cond (is_over e.at o.config.recover (state_of v o p m)) (greatest (members o) (λ j. halved (g j) (halvings_at o p e.at))) (halved n (halvings_at o p e.at))) (same m lt)
   carried_alike e (call.Admin c) f g m lt same = commanded_alike c f g m (same m lt)
 
--- What a member has after an entry: what a cut entry carries on, and else what it had and what the entry gave it.
+-- The total of a member after an entry: a cut entry carries it on, and any other adds its own units.
 cut_total : (v : ℕ) (o : Opening) (p : List Entry) (e : Entry) (m : ℕ) → is_cut e.call ≡ true
     → base_of v o (e ∷ p) m + gain_of o (e ∷ p) m ≡ carried v o p e e.call (λ j. base_of v o p j + gain_of o p j) m
 cut_total v o p e m is =

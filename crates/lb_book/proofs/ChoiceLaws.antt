@@ -139,7 +139,7 @@ module _ (v : ℕ) (o : Opening) (p : List Entry) (now : Present) (h : IsNow v o
   chosen_now How.Redirect m is = sym routed_now ∙ is
   chosen_now How.Balanced m is = (open_now is.0, least_now m is.1)
 
-  -- What the rows answer is what the history before the ask says.
+  -- The pick of the rows is that of the history before the ask.
   pub pick_now : (next : ℕ) (a : Answer) → next ≡ next_of o p → HasRoomFor now.rows.items a
       → IsPickAt v o.config now.rows.items d now.chosen next ask a → IsPick v o p ask a
   pick_now next (Answer.Chosen m t how probe) number room is =

@@ -324,7 +324,7 @@ next_commanded v o h now seq session at c is number later room doable = record {
   answered = (doable, refl);
 }
 
--- What the step of a command may take for granted: its factors are above 0, and divide their common multiple.
+-- The step of a command, with factors above 0 that divide their common multiple.
 module _ (v : ℕ) (o : Opening) (p : List Entry) (now : Present) (h : IsNow v o p now) (c : Command) where
   pub factors_commanded : HasValues c → IsLegalPast v o p → (m : ℕ) (d : Standing) → m < length now.rows.items
       → 0 < (setting_commanded c m (get_or now.rows.items m d)).factor

@@ -426,7 +426,7 @@ is_ending v o p now config shown tickets next present settled rows tickets_are n
       });
 }
 
--- What the making of an ending may take for granted.
+-- The making of an ending, with all that it may take for granted.
 module _ (v : ℕ) (o : Opening) (p : List Entry) (now : Present) (legal : IsLegalPast v o p) (present : IsNow v o p now) where
   pub ranges_now : (m : ℕ) (c : MemberConfig) (d : Standing) → m < length now.rows.items
       → IsInRange (length now.rows.items) m (ending_member (get_or o.config.members m c) (get_or now.rows.items m d))

@@ -62,13 +62,13 @@ alike_same v o p = record {
   kept = λ other m lt. refl;
 }
 
--- What nothing changes of a member's configuration.
+-- The parts of a member's configuration that nothing changes.
 pub record KeepsMember (former c : MemberConfig) : Type 0 where
   pub name : c.name ≡ former.name
   pub route : c.route ≡ former.route
   pub pool : c.pool ≡ former.pool
 
--- What a Book and its whole history have in common.
+-- A Book and its whole history: the history is legal, and both are alike.
 pub record IsWhole (o : Opening) (h : List Entry) (b : Journal) : Type 0 where
   pub legal : IsLegal 2 o h
   pub alike : Alike 2 o (reverse h) b.opening (past_of b)

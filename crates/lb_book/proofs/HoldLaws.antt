@@ -34,7 +34,7 @@ use Rattle.lb_book.specs.declared.receipt.Receipt.{Receipt}
 use Rattle.lb_book.proofs.ToldLaws.{some_is}
 use Rattle.lb_book.proofs.PlainLaws.{due-hold, follows-hold, found-hold, gains-hold, last-hold, own_one, plain-due, plain-last, size-at, sizes-hold}
 
--- What holds of the only error that there may be.
+-- A fact of the only error that there may be.
 pub of_error : {T E : Type 0} (r : Result T E) (only : E) (P : E → Type 0) → IsErrAnd r (λ e. e ≡ only) → P only → IfErr r P
 of_error (Ok x) only P is p = tt
 of_error (Err e) only P is p = subst P (sym is) p
@@ -178,7 +178,7 @@ pub change_after : (mid grown : Journal) (command : Command) (e : AdminError Ful
 change_after mid grown command e same is =
     subst (λ (b : Journal). RefusesChange (λ mark. mark) b command e) same (refused_change mid command e is)
 
--- What is looked at.
+-- The Book that is looked at.
 pub plain_here : (books : List Journal) (lb : ℕ) (b : Journal) → lb < length (sizes_of books) → b ≡ get_or books lb b → slice_get books lb ≡ Some b
 plain_here books lb b within is =
     slice_get-get_or books lb b (subst (λ (n : ℕ). lb < n) (length-map books (λ (x : Journal). members x.opening)) within)

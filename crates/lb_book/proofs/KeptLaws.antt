@@ -42,7 +42,7 @@ on_member n next t m (x ∷ xs) are mine =
       | inr rest ↦ on_member n x.0 t m xs are.2 rest
     ]
 
--- What a call may take for granted of the fields.
+-- The fields, as a call may take them for granted.
 module _ (v : ℕ) (o : Opening) (h : List Entry) (now : Present) (kept early : List (Option ℕ)) (added c r : ℕ)
     (is : IsKept v o h now kept early added c r) where
   pub kept_few : length now.rows.items ≤ 64
@@ -92,7 +92,7 @@ module _ (v : ℕ) (o : Opening) (h : List Entry) (now : Present) (kept early : 
       length-returned v o (reverse h) e t (record { kind = Kind.Done; bytes = 0 }) is.legal refl refl is_open in
       omega (arith, is.present.tickets, less)
 
-  -- What was found of a ticket that is out.
+  -- A ticket that is out was found at its spot.
   pub record IsLocated (t m : ℕ) (spot : Spot) : Type 0 where
     pub found : IsSpot o h t m spot
     pub is_open : is_out o (reverse h) t ≡ true

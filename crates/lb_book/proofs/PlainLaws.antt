@@ -96,7 +96,7 @@ size-at [] lb old at = absurd cc
 size-at (b ∷ books) zero old at = ap (λ (x : Journal). members x.opening) (some_is b old at)
 size-at (b ∷ books) (suc lb) old at = size-at books lb old at
 
--- What a hold adds is added to the desk.
+-- A hold's gains are added to the desk's.
 pub gains-hold : (books : List Journal) (lb : ℕ) (old new : Journal) (before now : List Receipt) (held held' : List (ℕ × ℕ))
     (session at : ℕ) (gained : List Receipt) (s f w s' f' w' : ℕ) → slice_get books lb ≡ Some old → now ≡ before ++ gained
     → All (IsOwn lb session at) gained → new ≡ grown_by old gained
@@ -427,7 +427,7 @@ picks_due old mid new before between lb session at account ask e due adds sound 
     picks-after old mid new ask e.seq e.answer (ap (λ (b : Journal). members b.opening) due.gains.grown) due.gains.stay
     (picks_by mid new session at ask e e.answer refl adds sound pick)
 
--- What a desk keeps.
+-- A desk keeps its Books sound.
 sound-gains : (books : List Journal) (lb : ℕ) (old new : Journal) (before now : List Receipt) (session at : ℕ) (gained : List Receipt)
     → AreLegal books → slice_get books lb ≡ Some old → BookGains old new before now lb session at gained → AreLegal (slice_set books lb new)
 sound-gains books lb old new before now session at gained legal here gains =

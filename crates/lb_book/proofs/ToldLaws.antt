@@ -36,7 +36,7 @@ at_place [] i lt = absurd (omega arith)
 at_place (x ∷ xs) zero lt = (x, refl)
 at_place (x ∷ xs) (suc i) lt = at_place xs i (omega arith)
 
--- What is so of the Book at the place is so where it is told.
+-- A fact of the Book at the place holds where the Book is told.
 pub where_told : (books : List Journal) (lb : ℕ) (old : Journal) (P : Journal → Type 0) → slice_get books lb ≡ Some old → P old
     → WhereTold (Some books) lb P
 where_told books lb old P here is b found = subst P (some_is old b (sym here ∙ found)) is

@@ -95,7 +95,7 @@ load-cut v o p e m request is =
     let units : units_of o (e ∷ p) m ≡ 0 = rw is refl in
     load-request v o (e ∷ p) m request ∙ rw units (grind arith)
 
--- What an entry gives: a choice one unit to its member, and no other entry any.
+-- The units of an entry: a choice gives one to its member, and no other entry gives any.
 units-select : (o : Opening) (p : List Entry) (e : Entry) (ask : Ask) (a : Answer) (i : ℕ) → o.config.method ≡ method.Request
     → e.call ≡ call.Select ask → e.answer ≡ a → units_by o p e e.call i ≡ cond (chose i a) 1 0
 units-select o p e ask a i request calls answered =

@@ -39,7 +39,7 @@ once_from forgot All items all books told none noted same is every uncut =
     (subst (λ (ys : List (ℕ × Entry)). IsPermutation ys (kept_from 0 told)) noted
     (is (none every) (subst (λ (xs : List Journal). AreUncut xs) (sym same) uncut)))
 
--- What was gathered, told of what the desks left.
+-- The discord of the gathered receipts, told of those that the desks left.
 pub differs_left : (sizes firsts : List ℕ) (amount amount' : ℕ) (forgot : Bool) (All : Type 0) (items all : List (ℕ × Entry)) (d : DiscordNote)
     (starts : List Opening) (seats : List SeatNote) → (forgot ≡ false → All) → items ≡ all → amount ≡ amount'
     → (forgot ≡ false) × (x : Differs sizes firsts amount items d) × IsClosed starts seats x.books → All × (y : Differs sizes firsts amount' all d) × IsClosed starts seats y.books

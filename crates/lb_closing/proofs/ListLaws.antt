@@ -64,7 +64,7 @@ all_step P xs rest x Old New T so_far is more = (
       (more.1 (before.0, parts.0), parts.1)),
 )
 
--- What holds where nothing is left.
+-- A list with no item left.
 pub no_items : {X : Type 0} (xs : List X) → length xs ≡ 0 → xs ≡ []
 no_items [] none = refl
 no_items (x ∷ xs) none = absurd (omega arith)
@@ -90,7 +90,7 @@ all_end P xs New T so_far none = (
   (λ t. (so_far.1 t).0),
 )
 
--- What holds of the first and the others holds of all.
+-- The sum over the first item and the others is that over all.
 pub sum_of : {X : Type 0} (f : X → ℕ) (all rest : List X) (x : X) (a b : ℕ) → all ≡ x ∷ rest → a ≡ f x → b ≡ a + sum_by f rest → b ≡ sum_by f all
 sum_of f all rest x a b is first others =
     let here : b ≡ sum_by f (x ∷ rest) = omega (arith, sum_by-cons f x rest, first, others) in

@@ -139,7 +139,7 @@ all_known f count (x ∷ log) known =
       all_known f count log (All-tail (λ y. f y < count) x log known),
     )
 
--- What the Books added, by their numbers.
+-- The entries that the Books added, by the Books' numbers.
 added_by : (log : List (ℕ × (ℕ × Entry))) (first : ℕ) (books : List Journal)
     → ((lb : ℕ) (b : Journal) → slice_get books lb ≡ Some b → b.added ≡ length (entries_of (first + lb) log))
     → added_in books ≡ with_one (λ (x : ℕ × (ℕ × Entry)). x.1.0) (up_from first (length books)) log
@@ -162,7 +162,7 @@ added_by log first (b ∷ books) each =
     plus_one : (n m : ℕ) → n + suc m ≡ suc n + m
     plus_one n m = omega arith
 
--- What the desks have seen as their own, by their numbers.
+-- The own entries that the desks have seen, by the desks' numbers.
 counted_by : (log : List (ℕ × (ℕ × Entry))) (seats : List SeatNote) → All (λ s. own_in s.number log ≡ own_in s.number s.seen) seats
     → sum_by (λ s. own_count s) seats ≡ with_one (λ (x : ℕ × (ℕ × Entry)). x.0) (map (λ s. s.number) seats) log
 counted_by log [] own = refl

@@ -178,7 +178,7 @@ commanded_trial (command.Reset j) m t s is =
 commanded_trial (command.Recover j) m t s is =
     elim (cases_Bool (j == m)) [ inl this ↦ recovered_trial t s (rw this at is) | inr other ↦ rw other at is ]
 
--- What was out on m stays out, unless its own Return comes.
+-- A ticket that was out on m stays out, unless its own Return comes.
 kept_out : (o : Opening) (p : List Entry) (e : Entry) (u t m : ℕ) (w : Outcome) → ticket_in e.seq e.answer ≡ None
     → e.call ≡ call.Return u w → t ≢ u → is_out_on o p t m ≡ true → is_out_on o (e ∷ p) t m ≡ true
 kept_out o p e u t m w no_ticket_made calls other before =

@@ -43,7 +43,7 @@ some_of (suc n) test j lt passes =
           rw here (elim (any_of n test) as (λ b. (b || true) ≡ true) [ true ↦ refl | false ↦ refl ])
     ]
 
--- What each test of a member says.
+-- The tests of a member, each by its parts.
 pub record IsRoomy (tried : Bool) (busy pool : ℕ) : Type 0 where
   pub untried : tried ≡ false
   pub room : busy < pool

@@ -63,7 +63,7 @@ filter_fewer {A} p q (x ∷ xs) stricter =
           rw fails (elim (q x) as (λ b. length (filter p xs) ≤ length (cond b (x ∷ filter q xs) (filter q xs))) [ true ↦ omega arith | false ↦ rest ])
     ]
 
--- What is found among the items that a test keeps is found among all.
+-- An item found among those that a test keeps is found among all.
 pub list_any-filtered : {A : Type 0} (p q : A → Bool) (xs : List A) → list_any p (filter q xs) ≡ true → list_any p xs ≡ true
 list_any-filtered p q [] found = found
 list_any-filtered {A} p q (x ∷ xs) found =

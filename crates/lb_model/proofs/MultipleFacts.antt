@@ -25,7 +25,7 @@ IsGcd-divisor_by (suc n) a (suc b) lt =
     let rest : a % suc b < suc b = mod_below a (suc b) (omega arith) in
     IsGcd-from_mod a (suc b) (divisor_by n (suc b) (a % suc b)) (IsGcd-divisor_by n (suc b) (a % suc b) (omega arith))
 
--- What divides both gives the least common multiple.
+-- The greatest common divisor gives the least common multiple.
 pub multiple_of_two-by : (a b g : ℕ) → IsGcd a b g → a / g * b ≡ multiple_of_two a b
 unfolding multiple_of_two
 multiple_of_two-by a b g h =

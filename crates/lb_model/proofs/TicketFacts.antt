@@ -34,7 +34,7 @@ ticket_below n next t [] are any = cc
 ticket_below n next t (x ∷ xs) are any =
     below_either x.0 t next (list_any (λ y. y.0 == t) xs) are.0 (ticket_below n x.0 t xs are.2) any
 
--- What isn't below a number isn't among the tickets below it.
+-- A number that isn't below another isn't among the tickets below that.
 pub ticket_absent : (n next t : ℕ) (xs : List Ticket) → AreTickets n next xs → next ≤ t
     → filter (λ x. not (x.0 == t)) xs ≡ xs
 ticket_absent n next t [] are le = refl
@@ -113,7 +113,7 @@ length-without n next t (x ∷ xs) are any =
           rw other (omega (arith, rest))
     ]
 
--- What a longer list says of its older end.
+-- The older end of a longer list of tickets is one too.
 pub AreTickets-suffix : (n next : ℕ) (xs ys : List Ticket) → AreTickets n next (xs ++ ys) → AreTickets n next ys
 AreTickets-suffix n next [] ys are = are
 AreTickets-suffix n next (x ∷ xs) ys are =
@@ -138,7 +138,7 @@ AreTickets-least n k i xs d lt are =
     let first : AreTickets n k (get_or xs i d ∷ reverse (take i xs)) = rw (reverse_more xs i d lt) at are in
     omega (arith, first.0)
 
--- What the whole list says of one ticket and of those before it.
+-- One ticket of a list, and those before it.
 pub AreTickets-at : (n next i : ℕ) (xs : List Ticket) (d : Ticket) → i < length xs
     → AreTickets n next (reverse xs) → AreTickets n next (get_or xs i d ∷ reverse (take i xs))
 AreTickets-at n next i xs d lt are =

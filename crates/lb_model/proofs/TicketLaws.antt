@@ -86,7 +86,7 @@ not_out_again o later e p t this =
     ∙ rw this (elim (is_returned t later) as (λ b. (b || true) ≡ true) [ true ↦ refl | false ↦ refl ]) in
     out-is o (later ++ e ∷ p) t ∙ rw back refl
 
--- What an entry gave, judged by a later history, where its ticket isn't the newer entry's.
+-- The units of an entry, judged by a later history, where its ticket isn't the newer entry's.
 on_with : (o : Opening) (p : List Entry) (e : Entry) (a : Answer) (t m : ℕ) → (e.seq == t) ≡ false
     → list_any (λ x. (x.0 == t) && (x.1 == m)) (cons_option (ticket_in e.seq a) (filter_map (λ (x : Entry). ticket_in x.seq x.answer) p) ++ reverse o.out) ≡ is_on o p t m
 on_with o p e (answer.Chosen j u h probe) t m other = rw other refl
@@ -139,7 +139,7 @@ own_units v o p e (call.Return t w) m legal answered =
 own_units v o p e call.Maintain m legal answered = refl
 own_units v o p e (call.Admin c) m legal answered = refl
 
--- What the present epoch gave to member m is the sum of what its entries gave, each judged by the whole history.
+-- The units of the present epoch for member m are the sum of those of its entries, each judged by the whole history.
 pub units-epoch : (v : ℕ) (o : Opening) (p : List Entry) (m : ℕ) → IsLegalPast v o p
     → units_of o p m ≡ sum_by (λ (x : Entry). units_by o p x x.call m) (epoch p)
 units-epoch v o [] m legal = refl

@@ -42,7 +42,7 @@ use Rattle.lb_passes.specs.declared.pass.Pass.{Pass}
 use Rattle.lb_passes.proofs.GainLaws.{gained_is, none_due, none_last}
 use Rattle.lb_passes.proofs.GotLaws.{got_all, got_found, got_more, got_turn, got_without, sees_more, sees_set, within_at}
 
--- What a Maintain and what a call beside a Return give back.
+-- A Maintain, and a call that is no Return, give nothing back.
 due_none : (b new : Journal) (r r' : List Receipt) (lb session at t : ℕ) (account : List Receipt → Type 0) → BookGainsDue b new r r' lb session at account
     → is_returned t (entries_in (gained_in r r')) ≡ false
 due_none b new r r' lb session at t account gains =
@@ -127,7 +127,7 @@ command_got passes lb p q old new on command result at ok err are =
     subst (λ (hs : List (ℕ × ℕ)). AreGot (set passes lb q) hs) (sym (command_held (view_of p) (view_of q) old new on command result ok err))
     (command_got_all passes lb p q at old new on command result ok err are)
 
--- What is then seen.
+-- The entries that are then seen.
 pub turn_sees : (old' new' : PassDeskState) (lb : ℕ) (p q : Pass) (r r' : List Receipt) (b : Journal) → get_elem? old'.passes lb ≡ some p → new'.passes ≡ set old'.passes lb q
     → old'.desk.receipts ≡ r → new'.desk.receipts ≡ r' → TakesTurn (view_of p) (view_of q) b (gained_in r r') → SeesAt old' new' lb
 turn_sees old' new' lb p q r r' b at is was now turn =

@@ -43,7 +43,7 @@ none_told b never = absurd cc
 pub none_sound : (sizes : List ℕ) → AreSound sizes None
 none_sound sizes = record { sound = λ lb b never. none_told b never; sized = λ told never. absurd cc }
 
--- What stays of a desk after a call that counted what it refused.
+-- A desk after a call that counted what it refused.
 pub keeps_desk : (number : ℕ) (sizes sizes' : List ℕ) (r r' : List Receipt) (h h' : List (ℕ × ℕ)) (f f' w w' : ℕ) → sizes' ≡ sizes → f ≤ f' → w ≤ w'
     → KeepsDesk (pass_state number sizes r h f w) (pass_state number sizes' r' h' f' w')
 keeps_desk number sizes sizes' r r' h h' f f' w w' same fulls wides = record {

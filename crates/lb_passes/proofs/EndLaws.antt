@@ -50,7 +50,7 @@ begins o b history stands = record {
   alone = λ i j n u v es fs here there mine theirs. (one_place o i u here).0 ∙ sym (one_place o j v there).0;
 }
 
--- What is left where all numbers came together at one caller: the Book, with the whole history.
+-- The end, where all numbers came together at one caller: the Book is left, with the whole history.
 pub record IsEnd (v : PassView) (xs : List Journal) : Type 0 where
   pub book : Journal
   pub found : get_elem? xs 0 ≡ some book

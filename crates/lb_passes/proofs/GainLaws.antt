@@ -66,7 +66,7 @@ taken_is me m1 t took b lent =
     let head : (0, b) ≡ (0, took.book) = cc in
     ap (λ (x : ℕ × Journal). x.1) head
 
--- What is known of it.
+-- The Book, by the view of the caller that took it.
 pub record IsTaken (v : PassView) (b : Journal) : Type 0 where
   pub log : List Entry
   pub begins : BeginsWith log v.seen

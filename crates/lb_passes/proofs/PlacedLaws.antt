@@ -65,7 +65,7 @@ one_desk books passes b p books_are passes_are of =
       one = λ i j q r here there. ap (λ (x : Pass). x.number) (sym (only_at p q i here) ∙ only_at p r j there);
     }))
 
--- What a new desk of one pass knows.
+-- A new desk of one pass has its place.
 pub new_placed : (table : TableId) (o : Origin) (given n : ℕ) (d : PassDeskState) (passes : List Pass) (p : Pass) → d ≡ desk_value n passes [] [] 0 0 → passes ≡ p ∷ []
     → ((lb : ℕ) (q : Pass) → get_elem? passes lb ≡ some q → q.number ≡ n) → IsBack table o given p → IsPlaced table o given d
 new_placed table o given n d passes p is one numbers back = record {

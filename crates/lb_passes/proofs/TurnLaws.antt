@@ -49,7 +49,7 @@ still_drawn s s' me m after drawn found drew polled other =
     let same : after ≡ m = polled.waits (λ is. other (is ∙ ap (λ (k : ℕ). k % 2 ^ 64) at_turn ∙ sym drew.word)) in
     record { turn = drew.turn; word = drew.word; is = same ∙ drew.is }
 
--- What a caller is that told its last k entries.
+-- A caller that told its last k entries.
 abbrev pub told_me : (k : ℕ) → Me Journal PassView → Me Journal PassView
 told_me k me = (turning me.0 me.0.turn (me.0.seen ++ last_in k me.1) (grown_owns (last_in k me.1) me.0.owns), me.1)
 

@@ -129,7 +129,7 @@ chosen_made v o (e ∷ q) k m legal is =
           ]
     ]
 
--- What stands in a list at a place is found in it.
+-- An item at a place of a list is found in it.
 any-at : {A : Type 0} (test : A → Bool) (xs : List A) (i : ℕ) (x : A) → slice_get xs i ≡ Some x → test x ≡ true → list_any test xs ≡ true
 any-at test [] i x is passes = absurd cc
 any-at test (y ∷ ys) zero x is passes =

@@ -30,7 +30,7 @@ spot_placed o p h kept early t m (Spot.Entry place) same are is =
 spot_placed o p h kept early t m (Spot.Opening place) same are is =
     omega (arith, are.early_whole, slice_get_within o.out place (t, m) is)
 
--- What the tables say of the ticket of a spot.
+-- The ticket of a spot by the tables: whether it came back.
 pub spot_returned : (o : Opening) (p h : List Entry) (kept early : List (Option ℕ)) (t m : ℕ) (spot : Spot)
     → length h ≡ length p → AreReturns o p kept early → IsSpot o h t m spot → IsReturnedAt p t (returned_in kept early spot)
 spot_returned o p h kept early t m (Spot.Entry place) same are is =

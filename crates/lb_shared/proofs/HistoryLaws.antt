@@ -147,7 +147,7 @@ drop_left : (xs ys : List Receipt) → drop (length xs) (xs ++ ys) ≡ ys
 drop_left [] ys = refl
 drop_left (x ∷ xs) ys = drop_left xs ys
 
--- What was added to a list is what stands after it.
+-- The receipts added to a list are those that stand after it.
 gained-is : (old new gained : List Receipt) → new ≡ old ++ gained → gained_in old new ≡ noted gained
 gained-is old new gained is = ap (λ (xs : List Receipt). noted (drop (length old) xs)) is ∙ ap (λ (xs : List Receipt). noted xs) (drop_left old gained)
 

@@ -101,7 +101,7 @@ gains_last a b c lb session at called r due adds noted counted =
       maintained = due.maintained;
     }
 
--- What a choice says.
+-- The choice of an answer.
 hold_choice : (v : ℕ) (o : Opening) (p : List Entry) (sizes : List ℕ) (lb : ℕ) (ask : Ask) (e : Entry) (a : Answer) (c : Choice LeaseNote) → e.answer ≡ a
     → e.seq ≡ next_of o p → IsPick v o p ask a → IfSome (lease_of lb a) (λ lease. (lease.member < slice_index sizes lb) × (is_in ask.tried lease.member ≡ false))
     → IsSiteChoice lb a c → IsHoldChoice sizes lb ask e c
@@ -263,7 +263,7 @@ commands sizes firsts a b c lb session at command r due are adds noted counted d
       values = doable.values;
     }
 
--- What was found is a journal that the balancer may have.
+-- The Book that was found is a journal that the balancer may have.
 pub sited_found : (sizes firsts : List ℕ) (books : List Journal) (lb : ℕ) (b : Journal) → AreSited sizes firsts books → slice_get books lb ≡ Some b
     → IsFound sizes None lb b
 sited_found sizes firsts books lb b are here = record {

@@ -16,7 +16,7 @@ use Rattle.lb_shared.specs.declared.view.Claim.{Claim}
 use Rattle.lb_shared.specs.declared.view.View.{View}
 use Rattle.lb_shared.specs.Histories.{AreDistinct, DeskSees, HasGone, IsClosed, IsSiteHistory, SeatNote, SeesHold, gained_in, noted, own_in}
 
--- What a seat claims.
+-- The claim of a seat.
 abbrev pub claim_of : SeatNote → Claim (ℕ × Entry)
 claim_of s = record { number = s.number; seen = s.seen }
 

@@ -168,7 +168,7 @@ short_back cut_at books books' lb session at t outcome (Err e) short ok err lega
 pub short_new : (cut_at : ℕ) (books : List Journal) → AreLegal books → (0 < cut_at → (lb : ℕ) → At books lb (λ b. b.entries ≡ [])) → AreShort cut_at books
 short_new cut_at books legal empty = λ cuts lb b found. short-empty cut_at b (empty cuts lb b found) (legal lb b found)
 
--- What is looked at.
+-- The rows of a view.
 pub look_rows : (sizes firsts : List ℕ) (books : List Journal) (lb : ℕ) (v : View) → AreSited sizes firsts books → lb < length books
     → At books lb (λ b. IsPresent b.rules b.opening (past_of b) v) → length v.rows ≡ slice_index sizes lb
 look_rows sizes firsts books lb v are within present =
@@ -239,14 +239,14 @@ not_out_at sizes firsts books lease (Err s) are within found returned =
       returned = returned here.0 here.1;
     }
 
--- What is looked at, in a journal that the balancer may have.
+-- The present of a view, in a journal that the balancer may have.
 pub look_present : (sizes firsts : List ℕ) (books : List Journal) (lb : ℕ) (v : View) → AreSited sizes firsts books → lb < length books
     → At books lb (λ b. IsPresent b.rules b.opening (past_of b) v) → (b : Journal) × IsFound sizes None lb b × IsPresent b.rules b.opening (past_of b) v
 look_present sizes firsts books lb v are within present =
     let here : (b : Journal) × (slice_get books lb ≡ Some b) = at_place books lb within in
     (here.0, sited_found sizes firsts books lb here.0 are here.1, present here.0 here.1)
 
--- What is so between the states of a hold, where they are told otherwise.
+-- A fact between the states of a hold, where these are told otherwise.
 pub held_moved : (P : HeldState → HeldState → Type 0) (mid mid' after after' : List Journal) (rs rs' : List Receipt) (a a' b b' : ℕ) → mid ≡ mid' → a ≡ a' → after ≡ after' → b ≡ b'
     → P (held mid rs a) (held after rs' b) → P (held mid' rs a') (held after' rs' b')
 held_moved P mid mid' after after' rs rs' a a' b b' mids amounts afters amounts' is =

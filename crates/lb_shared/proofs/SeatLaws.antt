@@ -12,7 +12,7 @@ use Rattle.lb_shared.specs.Histories.{DeskSees, IsResting, IsSiteHistory, SeatSe
 use mathlib.Core.Option.{some}
 use lib.ListN.{get_elem?}
 
--- What the first slot in hand has.
+-- The value of the first slot in hand.
 abbrev slot_in : {A : Type 0} → List (ℕ × A) → A → A
 slot_in [] d = d
 slot_in (x ∷ xs) d = x.1

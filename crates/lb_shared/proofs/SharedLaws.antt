@@ -40,7 +40,7 @@ none_sound sizes = record {
   sized = λ told is. absurd cc;
 }
 
--- What a hold gained, told of the desk that had the lock.
+-- The gains of a hold, told of the desk that had the lock.
 pub gains_desk : (sizes : List ℕ) (parts : ℕ) (old new : HeldState) (held held' : List (ℕ × ℕ)) (s f w s' f' w' : ℕ) (m m' : Option Stray) (lb session at : ℕ) (gained : List Receipt)
     → HoldGains old new lb session at gained
     → Gains (shared_desk sizes parts old.receipts held old.amount s f w m) (shared_desk sizes parts new.receipts held' new.amount s' f' w' m') lb session at gained
@@ -141,7 +141,7 @@ takes_back_desk sizes firsts parts old new held held' s f w m session at lease o
   met = refl;
 }
 
--- What a desk keeps.
+-- The facts of a desk, with more receipts.
 pub shared_more : (n : ℕ) (receipts receipts' : List Receipt) (held held' : List (ℕ × ℕ)) (parts parts' amount amount' forgotten room room' : ℕ) (gained : List Receipt)
     → IsShared n receipts held parts amount forgotten room → receipts' ≡ receipts ++ gained → amount' ≡ amount + length gained → amount' ≤ 2 ^ 58
     → parts' ≡ parts → AreKnown n held' → length receipts' + length held' ≤ room' → IsShared n receipts' held' parts' amount' forgotten room'
@@ -261,7 +261,7 @@ holds_drop [] p d i lt other none = absurd (omega arith)
 holds_drop (x ∷ xs) p d zero lt other none = rw (other, none) refl
 holds_drop (x ∷ xs) p d (suc i) lt other none = holds_drop xs p d i (omega arith) other none
 
--- What the hold of a desk gained, by its result.
+-- The gains of a desk's hold, by its result.
 abbrev pub Gained : (rs rs' : List Receipt) (a a' : ℕ) → Type 0
 Gained rs rs' a a' = (gained : List Receipt) × (rs' ≡ rs ++ gained) × (a' ≡ a + length gained) × (length gained ≤ 2)
 
@@ -320,7 +320,7 @@ goes_on_none (Some x) rs rs' same = λ r there.
     absurd (none_gained rs r (sym (ap (λ (xs : List Receipt). slice_get xs (length rs)) (same ∙ sym (append-nil rs))) ∙ there))
 
 module _ (sizes firsts : List ℕ) (before after : List Journal) (cut : Option (ℕ × Segment)) (rs rs' : List Receipt) (a a' : ℕ) (lb session at : ℕ) where
-  -- What the locked value's choice says, and its command.
+  -- The choice and the command of the locked value.
   abbrev pub ChoseOk : Ask → Choice LeaseNote → Type 0
   ChoseOk ask c = (mid : List Journal) × CutsFirst before mid lb cut × AreSited sizes firsts mid × HoldChooses sizes (held mid rs a) (held after rs' a') lb session at ask c
 
@@ -406,7 +406,7 @@ module _ (sizes firsts : List ℕ) (before after : List Journal) (cut : Option (
         subst (λ (n : ℕ). GainsDue (shared_desk sizes parts rs h a s f w m) (shared_desk sizes n rs' h' a' s f' w' m) lb session at (e ≡ admin.NoMemory) (IsCommandRefusal (λ mark. mark.numbers) at command e)) (sym same)
         (due_desk sizes firsts parts (held err.0 rs a) (held after rs' a') err.2 h h' s f w s f' w' m lb session at (e ≡ admin.NoMemory) (IsCommandRefusal (λ mark. mark.numbers) at command e) err.3)
 
--- What a desk keeps after a choice, and after a command.
+-- A desk's facts after a choice, and after a command.
 pub kept_choose : (n lb : ℕ) (rs rs' : List Receipt) (h h' : List (ℕ × ℕ)) (parts parts' a a' room room' : ℕ) (r : Result (Choice LeaseNote) (RoomError MarkNote)) → lb < n
     → Gained rs rs' a a' → IfOk r (λ c. h' ≡ h ++ pairs_of lb c) → OnErr r (h' ≡ h) → a' ≤ 2 ^ 58 → parts' ≡ parts → length rs + length h + 3 ≤ room'
     → (f : ℕ) → IsShared n rs h parts a f room → IsShared n rs' h' parts' a' f room'
@@ -604,7 +604,7 @@ shared_returned n rs rs' h h' p parts parts' a a' f room room' (Ok x) is had one
 shared_returned n rs rs' h h' p parts parts' a a' f room room' (Err e) is had one counted none few same without more =
     shared_stray n rs rs' h h' p parts parts' a a' f room room' is none.0 none.1 same without more
 
--- What is looked at.
+-- The view of a look.
 pub shows_shared : {E : Type 0} (sizes : List ℕ) (parts : ℕ) (rs : List Receipt) (h : List (ℕ × ℕ)) (a s f w : ℕ) (m : Option Stray) (lb : ℕ) (r : Result ViewNote E)
     → IfOk r (λ v. (b : Journal) × IsFound sizes None lb b × IsPresent b.rules b.opening (past_of b) v.view) → IfOk r (λ v. length v.view.rows ≡ slice_index sizes lb)
     → IfOk r (λ v. Shows (shared_desk sizes parts rs h a s f w m) lb v.view)

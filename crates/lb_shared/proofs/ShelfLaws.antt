@@ -8,7 +8,7 @@ use Rattle.lb_shared.specs.SharedDesks.{PutsAway, PutsAwayOf, SharedState, shelf
 use Rattle.lb_shared.specs.Shelves.{HasShelved, ShelfNote, ShelvesOn, added_since}
 use Rattle.lb_shared.proofs.LeftLaws.{drop_front}
 
--- What was added at the end is what was added.
+-- The segments added at the end are those that were added.
 is_added : (old new : Option (List (ℕ × Segment))) (more : List (ℕ × Segment)) → new ≡ appended old more → new ≡ appended old (added_since old new)
 is_added None new more same = same
 is_added (Some old) None more same = absurd cc
@@ -36,7 +36,7 @@ shelved_on old new more added no_fewer no_less forgotten = λ since was. record 
   forgotten = forgotten ∙ was.forgotten;
 }
 
--- What a call of a desk did with its shelf.
+-- The shelf after a call of its desk.
 put_on : {S : Type 0} (shelved : S → Option (List (ℕ × Segment))) (faults : S → ℕ) (old new : SharedState S) (cut : Option (ℕ × Segment))
     → PutsAway shelved faults old.shelf new.shelf old.wants new.wants cut → new.forgotten ≡ old.forgotten
     → ShelvesOn (shelf_note shelved faults old) (shelf_note shelved faults new)

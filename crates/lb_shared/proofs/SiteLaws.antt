@@ -114,7 +114,7 @@ here_at books shown lb b same within is =
     let below : lb < length books = subst (λ (xs : List Journal). lb < length xs) (sym same) within in
     slice_get-get_or books lb b below ∙ ap (λ (x : Journal). Some x) (sym is)
 
--- What is so of the Book that was put at a place.
+-- A fact of the Book that was put at a place.
 pub at_put : (P : Journal → Type 0) (books : List Journal) (lb : ℕ) (old new : Journal) → slice_get books lb ≡ Some old → P new → At (slice_set books lb new) lb P
 at_put P books lb old new here is b found = subst P (some_is new b (sym (get-set books lb new (slice_get_within books lb old here)) ∙ found)) is
 

@@ -50,7 +50,7 @@ abbrev pub last_in : List Journal → (lb count : ℕ) → List (ℕ × Entry)
 last_in books lb count =
     let kept = entries_in (slice_get books lb) in map (λ e. (lb, e)) (drop (length kept - count) kept)
 
--- What a desk with this number has seen, before a hold and after it: a history of the Site that begins with all that it
+-- The sight of a desk with this number, before a hold and after it: a history of the Site that begins with all that it
 -- had seen, goes on with entries of other desks, and ends with those of this hold. So of this desk's entries the history
 -- has just those that it was told, each once.
 pub record SeesHold (starts : List Opening) (number : ℕ) (before after : List (ℕ × (ℕ × Entry))) (gained : List (ℕ × Entry)) : Type 0 where
@@ -140,6 +140,6 @@ pub record HasGone (seat : SeatNote) (receipts : List Receipt) (now : SeatNote) 
   pub grown : receipts' ≡ receipts ++ drop (length receipts) receipts'
   pub own : own_in seat.number now.seen ≡ own_in seat.number seat.seen ++ gained_in receipts receipts'
 
--- What a desk did since whatever moment, it did from here on too, and nothing else.
+-- A desk went on from here: whatever it had done since an earlier moment, it has done until now too.
 abbrev pub GoesOn : (old : SeatNote) → (receipts : List Receipt) → (new : SeatNote) → (receipts' : List Receipt) → Type 0
 GoesOn old receipts new receipts' = (since : SeatNote) (first : List Receipt) → HasGone since first old receipts → HasGone since first new receipts'

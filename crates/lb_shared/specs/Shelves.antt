@@ -54,6 +54,6 @@ pub record HasShelved (since now : ShelfNote) : Type 0 where
   pub no_less : since.wants ≤ now.wants
   pub forgotten : now.forgotten ≡ since.forgotten
 
--- What became of it since whatever moment, became of it from here on too, and nothing else.
+-- A shelf went on from here: whatever became of it since an earlier moment, has become of it until now too.
 abbrev pub ShelvesOn : (old new : ShelfNote) → Type 0
 ShelvesOn old new = (since : ShelfNote) → HasShelved since old → HasShelved since new

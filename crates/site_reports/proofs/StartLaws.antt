@@ -19,7 +19,7 @@ starts_sizes (lb ∷ lbs) at first (b ∷ books) all =
     let here : length b.opening.config.members ≡ length lb.book.members = ap (λ c. length c.members) all.0.configured in
     ap (λ (n : ℕ). n ∷ sizes_of books) here ∙ ap (λ (ns : List ℕ). length lb.book.members ∷ ns) (starts_sizes lbs at first books all.1)
 
--- What holds of each Book that starts holds of all.
+-- A fact of each Book that starts is one of all.
 pub starts_each : (P : Journal → Type 0) (at first : ℕ) → ((lb : Lb) (b : Journal) → IsStart b lb.book at first → P b)
     → (lbs : List Lb) (books : List Journal) → AreStarts lbs at first books → (n : ℕ) (b : Journal) → slice_get books n ≡ Some b → P b
 starts_each P at first so [] [] all n b found = absurd cc

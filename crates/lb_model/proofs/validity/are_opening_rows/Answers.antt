@@ -6,7 +6,7 @@ use Rattle.lb_model.specs.declared.member.MemberConfig.{MemberConfig}
 use Rattle.lb_model.specs.declared.view.MemberRow.{MemberRow}
 use Rattle.lb_model.proofs.validity.are_opening_rows.Goals as goal
 
--- What stands at a place of a list that was lent.
+-- The item at a place of a list that was lent.
 read : {A : Type 0} (lent xs : List A) (i : ℕ) (x y : A) → lent ≡ xs → x ≡ get_or lent i x → slice_get xs i ≡ Some y → x ≡ y
 read lent xs i x y same is found =
     is ∙ ap (λ (zs : List _). get_or zs i x) same ∙ get_or_from_slice_get xs i y x found

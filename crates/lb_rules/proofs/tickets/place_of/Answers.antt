@@ -3,7 +3,7 @@ use Rattle.std.proofs.lemmas.Bool.{cases_eq}
 use Rattle.std.proofs.lemmas.List.{get_or_default}
 use Rattle.lb_rules.proofs.tickets.place_of.Goals as goal
 
--- What a read of a ticket says holds at any default.
+-- A bound on a ticket that was read holds at any default.
 below-any : (xs : List (ℕ × ℕ)) (i t : ℕ) (d e : ℕ × ℕ) → i < length xs → (get_or xs i e).0 < t → (get_or xs i d).0 < t
 below-any xs i t d e lt h = subst (λ (x : ℕ × ℕ). x.0 < t) (get_or_default xs i e d lt) h
 

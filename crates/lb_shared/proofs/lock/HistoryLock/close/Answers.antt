@@ -3,7 +3,7 @@ use Rattle.std.specs.Prelude.{IsSome}
 use Rattle.atomic_table.specs.Table.{rest}
 use Rattle.lb_shared.proofs.lock.HistoryLock.close.Goals as goal
 
--- What the slot in hand has.
+-- The value of the slot in hand.
 abbrev slot_in : {A : Type 0} → List (ℕ × A) → A → A
 slot_in [] d = d
 slot_in (x ∷ xs) d = x.1
