@@ -2,7 +2,7 @@
 use Rattle.std.proofs.Common.{◌≡◌, ℕ, zero, suc, ◌<◌, ◌≤◌, List, [], ◌∷◌, ◌++◌, length, take, drop, map, refl, sym, ap, ◌∙◌, append_assoc, arith, length-append, length-drop}
 use Rattle.std.proofs.lemmas.List.{length-take, take-append-drop}
 use Rattle.std.specs.List.{concat, AllByRecursion}
-use Rattle.ajp_container.specs.Reply.{AreFull, IsCut}
+use Rattle.ajp_container.specs.Reply.{AreFull, IsCutBody}
 use Rattle.ajp_reply.specs.declared.message.Message.{Message}
 use Rattle.ajp_reply.specs.declared.message.Message.TheVariants.{Chunk}
 use Rattle.ajp_container.specs.Answer.{pieces, cut}
@@ -64,7 +64,7 @@ pieces-full (suc most) size (b ∷ body) some enough =
     full-before size (b ∷ body) (pieces most size (drop size (b ∷ body))) some (omega arith)
     (pieces-full most size (drop size (b ∷ body)) some less) (pieces-joined most size (drop size (b ∷ body)) some less)
 
-pub cut-is : (size : ℕ) (body : List ℕ) → 0 < size → IsCut size body (cut size body)
+pub cut-is : (size : ℕ) (body : List ℕ) → 0 < size → IsCutBody size body (cut size body)
 cut-is size body some = record {
   joined = pieces-joined (length body) size body some (omega arith);
   full = pieces-full (length body) size body some (omega arith);

@@ -11,22 +11,22 @@ use Rattle.jk_io.proofs.DoorLaws.{all_but_last, but_one_more, none_came, none_mo
 use Rattle.ajp_container.specs.declared.app_config.AppConfig.{AppConfig}
 use Rattle.ajp_container.specs.declared.ends.ContainerEnd.{ContainerEnd}
 use Rattle.ajp_container.specs.declared.ends.ContainerEnd.TheVariants as container_end
-use Rattle.ajp_container.specs.Served.{AreServed, count_of, GoesOn, IsServed, IsServedDoor, LeavesServed, ServedLink}
+use Rattle.ajp_container.specs.Served.{AreServed, count_of, WorksOn, IsServedLink, IsServedDoor, LeavesServed, ServedLink}
 use Rattle.ajp_container.specs.declared.worker_ends.ContainerWorker.TheVariants as worker
 
 -- These links were served, and the worker goes on.
 pub record IsUnderWay {C X : Type 0} (app : AppConfig) (told : Ghosts C X) (first now : DoorSide C) (count : ℕ) : Type 0 where
   pub links : List (ServedLink C)
   pub served : AreServed app told first now links
-  pub going : All GoesOn links
+  pub going : All WorksOn links
   pub counted : count ≡ count_of links
   pub steady : now.faults ≡ first.faults
 
 pub begins : {C X : Type 0} → (app : AppConfig) (told : Ghosts C X) (door : DoorSide C) → IsUnderWay app told door door 0
 begins {C} app told door = record {
   links = [];
-  served = record { clients = none_came door; talks = All-nil (IsServed app told) };
-  going = All-nil GoesOn;
+  served = record { clients = none_came door; talks = All-nil (IsServedLink app told) };
+  going = All-nil WorksOn;
   counted = refl;
   steady = refl;
 }
@@ -46,7 +46,7 @@ serves_more {C} app told first before mid after links link peer end served gives
       clients =
           rw (came, back)
           (one_more first before mid after _ _ link leaves.back peer served.clients gives leaves.coming leaves.left leaves.faults);
-      talks = All-push (IsServed app told) links _ served.talks leaves.talk;
+      talks = All-push (IsServedLink app told) links _ served.talks leaves.talk;
     }
 
 pub goes_on : {C X : Type 0} → (app : AppConfig) (told : Ghosts C X) (first before mid after : DoorSide C) (count next : ℕ) (link : C) (peer : Peer) (end : ContainerEnd)
@@ -59,7 +59,7 @@ goes_on {C} app told first before mid after count next link peer end way gives l
     record {
       links = way.links ++ here ∷ [];
       served = serves_more app told first before mid after way.links link peer end way.served gives leaves;
-      going = All-push GoesOn way.links here way.going other;
+      going = All-push WorksOn way.links here way.going other;
       counted = omega (arith, len, was, more);
       steady = leaves.faults ∙ (gives.faults ∙ way.steady);
     }
@@ -71,7 +71,7 @@ pub wants : {C X : Type 0} → (app : AppConfig) (told : Ghosts C X) (first befo
 wants app told first before mid after count link peer end way gives leaves = record {
   links = way.links ++ link_of app told mid after link peer end leaves ∷ [];
   served = serves_more app told first before mid after way.links link peer end way.served gives leaves;
-  why = (but_one_more GoesOn way.links _ way.going, leaves.faults ∙ (gives.faults ∙ way.steady));
+  why = (but_one_more WorksOn way.links _ way.going, leaves.faults ∙ (gives.faults ∙ way.steady));
 }
 
 stays : {C X : Type 0} → (app : AppConfig) (told : Ghosts C X) (first before after : DoorSide C) (links : List (ServedLink C))
@@ -106,5 +106,5 @@ pub lacks : {C X : Type 0} → (app : AppConfig) (told : Ghosts C X) (first befo
 lacks app told first before after count way none steady = record {
   links = way.links;
   served = stays app told first before after way.links way.served none;
-  why = (all_but_last GoesOn way.links way.going, steady ∙ way.steady);
+  why = (all_but_last WorksOn way.links way.going, steady ∙ way.steady);
 }

@@ -25,8 +25,8 @@ use Rattle.ajp_container.specs.Request.{application_of}
 use Rattle.ajp_container.specs.Answer.{answer_of, bytes_of, IsSendable}
 use Rattle.ajp_container.specs.Turns.{Taken, ContainerTurn, Idle, Ping, Request, Turns, data_of, asks_on, ask, owed_for, owed, requests_in}
 use Rattle.jk_io.specs.Moments.{Moment}
-use Rattle.ajp_container.specs.Ends.{Goes, TurnPlace, Between, Within, IsRefused, Stops, StopsWithin, StopsInTurn, IsTalk, end_of}
-use Rattle.ajp_container.specs.Steps.{TookPacket, NotTaken, NotSent, TookBody, asks, ServedWhole, TookTurn, TakesTurn, Reads, Sends, Serves, turn_after, is_request, kind_of, requests_of, stop_of}
+use Rattle.ajp_container.specs.Ends.{Goes, TurnPlace, Between, Within, IsRefusedPacket, Stops, StopsWithin, StopsInTurn, IsTalk, end_of}
+use Rattle.ajp_container.specs.Steps.{TookPacket, NotTaken, NotSent, TookBody, asks, ServedWhole, TookTurn, TakesTurn, ReadsForward, Sends, ServesForward, turn_after, is_request, kind_of, requests_of, stop_of}
 use Rattle.ajp_container.proofs.StepLaws.{packet-unkept, comes-none, comes-then, goes-none, goes-then, no-fewer, stops-then, stops-reading, stops-sending, stops-wanting}
 use Rattle.ajp_container.proofs.FitLaws.{answer-sendable}
 use Rattle.ajp_container.proofs.BodyLaws.{bytes_of-append, goes-same}
@@ -88,7 +88,7 @@ answer-served app forward m0 m1 m2 body t goes stays = record {
 -- ---- a turn
 
 pub request-unread : (payload : List ℕ) (error : DecodeError) (stop : Stopped) → stop ≡ stop_of error
-    → (error ≢ errors.NoMemory → (forward : Forward) → SpellsForward forward payload → ⊥) → Reads payload (Err stop)
+    → (error ≢ errors.NoMemory → (forward : Forward) → SpellsForward forward payload → ⊥) → ReadsForward payload (Err stop)
 request-unread payload (errors.Short at) stop is none = inl (is, none (λ e. cc))
 request-unread payload (errors.BadCode at) stop is none = inl (is, none (λ e. cc))
 request-unread payload (errors.BadMark at) stop is none = inl (is, none (λ e. cc))
@@ -108,7 +108,7 @@ turn-untaken app m0 m1 stop t = record {
   stops = stops-reading app.packet Between false m0 m1 stop t;
 }
 
-pub turn-strange : (app : AppConfig) (m0 m1 : Moment) (payload : List ℕ) → TookPacket app.packet m0 m1 payload → IsRefused Between Code payload
+pub turn-strange : (app : AppConfig) (m0 m1 : Moment) (payload : List ℕ) → TookPacket app.packet m0 m1 payload → IsRefusedPacket Between Code payload
     → StopsInTurn app m0 m1 (Bad Code)
 turn-strange app m0 m1 payload took refused =
     turn-untaken app m0 m1 (Bad Code) (record {
@@ -192,7 +192,7 @@ request-served app forward m0 m1 m2 payload t spelled s = record {
 
 -- a request, whether it was served whole or not
 pub request-taken : (app : AppConfig) (forward : Forward) (m0 m1 m2 : Moment) (payload : List ℕ) (served : Result Unit Stopped) → TookPacket app.packet m0 m1 payload
-    → SpellsForward forward payload → Serves app forward m1 m2 served → TakesTurn app m0 m2 (turn_after served)
+    → SpellsForward forward payload → ServesForward app forward m1 m2 served → TakesTurn app m0 m2 (turn_after served)
 request-taken app forward m0 m1 m2 payload (Ok done) t spelled s = request-served app forward m0 m1 m2 payload t spelled s
 request-taken app forward m0 m1 m2 payload (Err stop) t spelled s = request-stops app forward m0 m1 m2 payload stop t spelled s
 

@@ -42,28 +42,28 @@ pub data TurnPlace : Type 0 where
   Within : TurnPlace
 
 -- Which payloads can't be taken at a place, by the answer.
-abbrev pub IsRefused : TurnPlace → BadPacket → List ℕ → Type 0
-IsRefused place Magic payload = ⊥
-IsRefused place TooLong payload = ⊥
-IsRefused Between Code payload = (payload ≢ 10 ∷ []) × ((rest : List ℕ) → payload ≢ 2 ∷ rest)
-IsRefused Between BadRequest payload =
+abbrev pub IsRefusedPacket : TurnPlace → BadPacket → List ℕ → Type 0
+IsRefusedPacket place Magic payload = ⊥
+IsRefusedPacket place TooLong payload = ⊥
+IsRefusedPacket Between Code payload = (payload ≢ 10 ∷ []) × ((rest : List ℕ) → payload ≢ 2 ∷ rest)
+IsRefusedPacket Between BadRequest payload =
     ((rest : List ℕ) × (payload ≡ 2 ∷ rest)) × ((forward : Forward) → SpellsForward forward payload → ⊥)
-IsRefused Between Piece payload = ⊥
-IsRefused Within Code payload = ⊥
-IsRefused Within BadRequest payload = ⊥
-IsRefused Within Piece payload = (piece : List ℕ) → SpellsPiece piece payload → ⊥
+IsRefusedPacket Between Piece payload = ⊥
+IsRefusedPacket Within Code payload = ⊥
+IsRefusedPacket Within BadRequest payload = ⊥
+IsRefusedPacket Within Piece payload = (piece : List ℕ) → SpellsPiece piece payload → ⊥
 
 -- The bytes of a packet that can't be taken: too few to be one, the head of one that is too long, or one whole.
 abbrev pub IsBadBy : ℕ → TurnPlace → BadPacket → List ℕ → Type 0
 IsBadBy most place Magic bytes = IsBad false bytes
 IsBadBy most place TooLong bytes = IsTooLong false most bytes
-IsBadBy most place Code bytes = (payload : List ℕ) × IsPacket false most payload bytes × IsRefused place Code payload
-IsBadBy most place BadRequest bytes = (payload : List ℕ) × IsPacket false most payload bytes × IsRefused place BadRequest payload
-IsBadBy most place Piece bytes = (payload : List ℕ) × IsPacket false most payload bytes × IsRefused place Piece payload
+IsBadBy most place Code bytes = (payload : List ℕ) × IsPacket false most payload bytes × IsRefusedPacket place Code payload
+IsBadBy most place BadRequest bytes = (payload : List ℕ) × IsPacket false most payload bytes × IsRefusedPacket place BadRequest payload
+IsBadBy most place Piece bytes = (payload : List ℕ) × IsPacket false most payload bytes × IsRefusedPacket place Piece payload
 
 -- No more than a packet.
-abbrev pub IsFront : ℕ → List ℕ → Type 0
-IsFront most bytes = IsPart false most bytes ⊎ ((payload : List ℕ) × IsPacket false most payload bytes)
+abbrev pub IsPacketFront : ℕ → List ℕ → Type 0
+IsPacketFront most bytes = IsPart false most bytes ⊎ ((payload : List ℕ) × IsPacket false most payload bytes)
 
 -- Why a packet, of which these bytes came, wasn't taken. For want of memory no call of the link failed.
 abbrev pub EndsReading : ℕ → TurnPlace → Moment → Moment → List ℕ → Stopped → Type 0
@@ -72,7 +72,7 @@ EndsReading most place before after bytes Dropped = ⊥
 EndsReading most place before after bytes LinkFault = Rose before.faults after.faults × IsPart false most bytes
 EndsReading most place before after bytes Truncated = (0 < length bytes) × IsPart false most bytes × IsEmpty after.incoming
 EndsReading most place before after bytes (Bad bad) = IsBadBy most place bad bytes
-EndsReading most place before after bytes NoMemory = IsFront most bytes × (after.faults ≡ before.faults)
+EndsReading most place before after bytes NoMemory = IsPacketFront most bytes × (after.faults ≡ before.faults)
 
 -- Why something wasn't sent whole. For want of memory no call of the link failed.
 abbrev pub EndsSending : Moment → Moment → Stopped → Type 0

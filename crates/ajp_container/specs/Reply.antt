@@ -14,7 +14,7 @@ AreFull size (last ∷ []) = (0 < length last) × (length last ≤ size)
 AreFull size (piece ∷ next ∷ pieces) = (length piece ≡ size) × AreFull size (next ∷ pieces)
 
 -- The pieces joined are the body, and each is as long as it may be.
-pub record IsCut (size : ℕ) (body : List ℕ) (pieces : List (List ℕ)) : Type 0 where
+pub record IsCutBody (size : ℕ) (body : List ℕ) (pieces : List (List ℕ)) : Type 0 where
   pub joined : concat pieces ≡ body
   pub full : AreFull size pieces
 
@@ -28,7 +28,7 @@ pub record IsReply (size status : ℕ) (counted : Bool) (body : List ℕ) (messa
   pub head : ReplyParts
   pub chunks : List (List ℕ)
   pub whole : messages ≡ Headers head ∷ map Chunk chunks ++ End true ∷ []
-  pub cut : IsCut size body chunks
+  pub cut : IsCutBody size body chunks
   pub status_is : head.status ≡ status
   pub length_is : value_named (codes "Content-Length") head.headers ≡ length_told counted (concat chunks)
 

@@ -21,17 +21,17 @@ pub record ServedLink (C : Type 0) : Type 0 where
   pub end : ContainerEnd
 
 -- From the moment at which the door gave it to the one at which it was left, the link was in one talk with the container.
-abbrev pub IsServed : {C X : Type 0} → AppConfig → Ghosts C X → ServedLink C → Type 0
-IsServed app told s = IsTalk app (link_at told s.link) (link_at told s.back) s.end
+abbrev pub IsServedLink : {C X : Type 0} → AppConfig → Ghosts C X → ServedLink C → Type 0
+IsServedLink app told s = IsTalk app (link_at told s.link) (link_at told s.back) s.end
 
 -- the worker goes on after such a talk
-abbrev pub GoesOn : {C : Type 0} → ServedLink C → Type 0
-GoesOn s = s.end ≢ container_end.NoMemory
+abbrev pub WorksOn : {C : Type 0} → ServedLink C → Type 0
+WorksOn s = s.end ≢ container_end.NoMemory
 
 -- These links came from the door, in order, were served, and were left in that order.
 pub record AreServed {C X : Type 0} (app : AppConfig) (told : Ghosts C X) (before after : DoorSide C) (served : List (ServedLink C)) : Type 0 where
   pub clients : GaveAndGot before after (map (λ s. (s.link, s.peer)) served) (map (λ s. s.back) served)
-  pub talks : All (IsServed app told) served
+  pub talks : All (IsServedLink app told) served
 
 -- the number of links, which stands still at the last value of a u64
 abbrev pub count_of : {C : Type 0} → List (ServedLink C) → ℕ
@@ -39,17 +39,17 @@ count_of served = min (length served) 18446744073709551615
 
 -- Why a worker ended that served these links. Where it ended since no client comes any more, or for want of memory, its
 -- door had not failed.
-abbrev pub EndsBy : {C : Type 0} → (before after : DoorSide C) → List (ServedLink C) → ContainerWorker → Type 0
-EndsBy before after served (worker.Closed links) =
-    (links ≡ count_of served) × All GoesOn served × IsEmpty after.coming × (after.faults ≡ before.faults)
-EndsBy before after served worker.DoorFault = All GoesOn served × Rose before.faults after.faults
-EndsBy before after served worker.NoMemory = AllButLast GoesOn served × (after.faults ≡ before.faults)
+abbrev pub ContainerEndsBy : {C : Type 0} → (before after : DoorSide C) → List (ServedLink C) → ContainerWorker → Type 0
+ContainerEndsBy before after served (worker.Closed links) =
+    (links ≡ count_of served) × All WorksOn served × IsEmpty after.coming × (after.faults ≡ before.faults)
+ContainerEndsBy before after served worker.DoorFault = All WorksOn served × Rose before.faults after.faults
+ContainerEndsBy before after served worker.NoMemory = AllButLast WorksOn served × (after.faults ≡ before.faults)
 
 -- All that a worker did at its door.
 pub record IsServedDoor {C X : Type 0} (app : AppConfig) (told : Ghosts C X) (before after : DoorSide C) (end : ContainerWorker) : Type 0 where
   pub links : List (ServedLink C)
   pub served : AreServed app told before after links
-  pub why : EndsBy before after links end
+  pub why : ContainerEndsBy before after links end
 
 -- The workers of several doors, in order.
 abbrev pub AreEachServed : {C X : Type 0} → AppConfig → Ghosts C X → (before after : List (DoorSide C)) → List ContainerWorker → Type 0

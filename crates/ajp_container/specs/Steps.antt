@@ -19,7 +19,7 @@ use Rattle.ajp_container.specs.Request.{has_first}
 use Rattle.ajp_container.specs.Answer.{bytes_of}
 use Rattle.ajp_container.specs.Turns.{Body, ContainerTurn, Idle, Ping, Request, SpellsPiece, IsPacketOf, CameAnswers, AskedFor, CameFirst, CameTaken, CameBody, Came, data_of, asks_on, ask, owed_for, owed, is_over}
 use Rattle.jk_io.specs.Moments.{Moment}
-use Rattle.ajp_container.specs.Ends.{Goes, TurnPlace, Between, Within, IsRefused, EndsReading, EndsSending, Stops, StopsWithin, StopsInTurn}
+use Rattle.ajp_container.specs.Ends.{Goes, TurnPlace, Between, Within, IsRefusedPacket, EndsReading, EndsSending, Stops, StopsWithin, StopsInTurn}
 
 -- A packet was taken.
 pub record TookPacket (most : ℕ) (before after : Moment) (payload : List ℕ) : Type 0 where
@@ -140,14 +140,14 @@ pub record ServedWhole (app : AppConfig) (forward : Forward) (before after : Mom
   pub over : IsTrue (is_over app (Request forward body))
   pub goes : Goes before after bytes (bytes_of (owed_for app forward body))
 
-abbrev pub Serves : {T : Type 0} → AppConfig → Forward → Moment → Moment → Result T Stopped → Type 0
-Serves app forward before after (Ok _) = ServedWhole app forward before after
-Serves app forward before after (Err stop) = StopsWithin app forward before after stop
+abbrev pub ServesForward : {T : Type 0} → AppConfig → Forward → Moment → Moment → Result T Stopped → Type 0
+ServesForward app forward before after (Ok _) = ServedWhole app forward before after
+ServesForward app forward before after (Err stop) = StopsWithin app forward before after stop
 
 -- what a payload that begins with 02 reads as
-abbrev pub Reads : List ℕ → Result Forward Stopped → Type 0
-Reads payload (Ok forward) = SpellsForward forward payload
-Reads payload (Err stop) = ((stop ≡ Bad BadRequest) × ((forward : Forward) → SpellsForward forward payload → ⊥)) ⊎ (stop ≡ NoMemory)
+abbrev pub ReadsForward : List ℕ → Result Forward Stopped → Type 0
+ReadsForward payload (Ok forward) = SpellsForward forward payload
+ReadsForward payload (Err stop) = ((stop ≡ Bad BadRequest) × ((forward : Forward) → SpellsForward forward payload → ⊥)) ⊎ (stop ≡ NoMemory)
 
 -- by the refusal of a Forward Request
 abbrev pub stop_of : DecodeError → Stopped
@@ -177,7 +177,7 @@ kind_of true = kinds.Request
 abbrev pub IsBegun : List ℕ → Option TurnKind → Type 0
 IsBegun payload (Some kinds.Ping) = payload ≡ 10 ∷ []
 IsBegun payload (Some kinds.Request) = (rest : List ℕ) × (payload ≡ 2 ∷ rest)
-IsBegun payload None = IsRefused Between Code payload
+IsBegun payload None = IsRefusedPacket Between Code payload
 
 -- A turn is over: what came of it, and all that is owed for it was sent.
 pub record TookTurn (app : AppConfig) (before after : Moment) (kind : TurnKind) : Type 0 where

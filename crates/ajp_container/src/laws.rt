@@ -8,12 +8,12 @@ ghost use Rattle.ajp_container.specs.declared.page.AppPage.{AppPage};
 ghost use Rattle.ajp_container.specs.Applications.{drops};
 ghost use Rattle.ajp_container.specs.Request.{application_of, content_length, asks_body};
 ghost use Rattle.ajp_container.specs.Answer.{cut, messages_of, answer_of, bytes_of, IsSendable};
-ghost use Rattle.ajp_container.specs.Reply.{IsCut, IsReply, IsSomeReply, NeverEnds, IsShortTurn, HasAll};
+ghost use Rattle.ajp_container.specs.Reply.{IsCutBody, IsReply, IsSomeReply, NeverEnds, IsShortTurn, HasAll};
 ghost use Rattle.ajp_container.specs.Turns.{ContainerTurn, AskedFor, WasAsked, owed};
 
 /// The chunks of a body joined are the body, none is empty, and each but the last is as long as a packet allows.
 pub fn a_body_is_its_chunks()
-    ensures { (size : ℕ) (body : List ℕ) → 0 < size → IsCut size body (cut size body) }
+    ensures { (size : ℕ) (body : List ℕ) → 0 < size → IsCutBody size body (cut size body) }
 {}
 
 /// A page is sent as one head, its body in chunks, and End Response. Its Content-Length is the length of the chunks

@@ -6,7 +6,7 @@ ghost use Rattle.ajp_reply.specs.declared.message.Message.TheVariants.{Pong};
 ghost use Rattle.ajp_container.specs.Answer.{bytes_of};
 ghost use Rattle.ajp_wire.specs.Moments.{link_at};
 ghost use Rattle.ajp_container.specs.Ends.{IsTalk};
-ghost use Rattle.ajp_container.specs.Steps.{Sends, Serves, Reads, IsBegun, TakesTurn, TookPacket, requests_of, stop_of, turn_after};
+ghost use Rattle.ajp_container.specs.Steps.{Sends, ServesForward, ReadsForward, IsBegun, TakesTurn, TookPacket, requests_of, stop_of, turn_after};
 
 use crate::answering::app_answer;
 use crate::app_config::AppConfig;
@@ -29,7 +29,7 @@ pub enum TurnKind {
     Request,
 }
 
-/// Serves a connector on its link until the bytes end, or the talk can't go on. After 2^64 - 1 turns it ends as for want
+/// ServesForward a connector on its link until the bytes end, or the talk can't go on. After 2^64 - 1 turns it ends as for want
 /// of memory.
 pub fn serve_ajp<L: Link>(alloc: Global, link: &mut L, app: &AppConfig) -> ContainerEnd
     ensures talk { IsTalk app.now (link_at L.Meanings link.old) (link_at L.Meanings link.new) result }
@@ -60,7 +60,7 @@ fn requests_of(kind: TurnKind) -> u64
     }
 }
 
-/// Serves one turn: a CPing, or a request with its body.
+/// ServesForward one turn: a CPing, or a request with its body.
 fn serve_turn<L: Link>(alloc: Global, link: &mut L, app: &AppConfig) -> Result<TurnKind, Stopped>
     ensures took { TakesTurn app.now (link_at L.Meanings link.old) (link_at L.Meanings link.new) result }
     ensures no_fewer { L.faults link.old ≤ L.faults link.new }
@@ -70,7 +70,7 @@ fn serve_turn<L: Link>(alloc: Global, link: &mut L, app: &AppConfig) -> Result<T
     serve_taken(alloc, link, app, payload.as_slice())
 }
 
-/// Serves the turn that the payload of a taken packet begins.
+/// ServesForward the turn that the payload of a taken packet begins.
 fn serve_taken<L: Link>(
     alloc: Global,
     link: &mut L,
@@ -89,7 +89,7 @@ fn serve_taken<L: Link>(
     }
 }
 
-/// Serves the request whose Forward Request was taken.
+/// ServesForward the request whose Forward Request was taken.
 fn serve_read<L: Link>(
     alloc: Global,
     link: &mut L,
@@ -140,7 +140,7 @@ fn pong<L: Link>(alloc: Global, link: &mut L, app: &AppConfig) -> Result<TurnKin
 }
 
 fn read_request(alloc: Global, payload: &[u8]) -> Result<Forward, Stopped>
-    ensures { Reads payload.now result }
+    ensures { ReadsForward payload.now result }
 {
     match decode_forward(alloc, payload) {
         Ok(forward) => Ok(forward),
@@ -163,14 +163,14 @@ fn stopped_by(error: DecodeError) -> Stopped
     }
 }
 
-/// Serves a request, once its Forward Request was read.
+/// ServesForward a request, once its Forward Request was read.
 fn serve_request<L: Link>(
     alloc: Global,
     link: &mut L,
     app: &AppConfig,
     forward: &Forward,
 ) -> Result<(), Stopped>
-    ensures served { Serves app.now forward.now (link_at L.Meanings link.old) (link_at L.Meanings link.new) result }
+    ensures served { ServesForward app.now forward.now (link_at L.Meanings link.old) (link_at L.Meanings link.new) result }
     ensures no_fewer { L.faults link.old ≤ L.faults link.new }
     ensures same { L.beside link.new ≡ L.beside link.old }
 {

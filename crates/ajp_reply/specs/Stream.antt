@@ -27,8 +27,8 @@ pub record IsStream (most : ℕ) (past : List Message) (bytes rest : List ℕ) :
   pub whole : bytes ≡ came ++ rest
 
 -- Of these messages the earlier ones were known, and those that follow spell the bytes that came after them.
-abbrev pub GoesOn : ℕ → List Message → List Message → List ℕ → Type 0
-GoesOn most past all more = (later : List Message) × (all ≡ later ++ past) × Spelled most later more
+abbrev pub AreNextMessages : ℕ → List Message → List Message → List ℕ → Type 0
+AreNextMessages most past all more = (later : List Message) × (all ≡ later ++ past) × Spelled most later more
 
 -- The head among the messages, the newest where there are several.
 abbrev pub head_of : List Message → Option ReplyParts

@@ -2,7 +2,7 @@
 
 ghost use Rattle.std.specs.Prelude.{◌≡◌, ◌≢◌, ◌+◌, ◌≤◌, List, [], ℕ, length, map, take, drop, Ok, Err, IfOk, IfErr, IfSome, IfNone, vec_capacity};
 ghost use Rattle.ajp_wire.specs.FirstPlace.{IsRefused};
-ghost use Rattle.ajp_wire.specs.Reading.{Gives, Tells};
+ghost use Rattle.ajp_wire.specs.Reading.{GivesReading, TellsReading};
 ghost use Rattle.ajp_reply.specs.declared.message.Message.{Message};
 ghost use Rattle.ajp_reply.specs.Spelling.{Spells, IsSpelled, IsMessage, BeginsHead, TakesMemory};
 ghost use Rattle.ajp_reply.specs.Reading.{message_at, head_at, chunk_at, end_at, ask_at, ended as ended_at, ReadsWithMemory};
@@ -24,7 +24,7 @@ pub fn decode_reply(alloc: Global, payload: &[u8]) -> Result<Message, DecodeErro
 
     // The place of a refusal is the first that can't be read, and its kind is that of the field there.
     ensures refused { IfErr result (λ error. IsRefused IsSpelled payload.now error) }
-    ensures exact { Tells (length payload.now) result (message_at payload.now) }
+    ensures exact { TellsReading (length payload.now) result (message_at payload.now) }
 
     // Memory is wanted for a head and for a chunk alone.
     ensures wanted { result ≡ Err DecodeError.NoMemory → TakesMemory payload.now }
@@ -42,7 +42,7 @@ pub fn take_reply(alloc: Global, payload: &mut Vec<u8>) -> Result<Message, Decod
         → (message : Message) → Spells message payload.old.items → ⊥) }
     ensures written { IfOk result IsMessage }
     ensures refused { IfErr result (λ error. IsRefused IsSpelled payload.old.items error) }
-    ensures exact { Tells (length payload.old.items) result (message_at payload.old.items) }
+    ensures exact { TellsReading (length payload.old.items) result (message_at payload.old.items) }
 
     // A chunk leaves the payload with no bytes and no memory. Any other message, and an error, leave it as it was.
     ensures emptied { (bytes : List ℕ) → result ≡ Ok (Message.Chunk bytes) → (payload.new.items ≡ []) × (vec_capacity payload.new ≡ 0) }
@@ -89,7 +89,7 @@ fn cut_out(alloc: Global, payload: &mut Vec<u8>, len: usize) -> Bytes
 }
 
 fn message(alloc: Global, payload: &[u8]) -> Result<Message, NotRead>
-    ensures read { Gives (λ m. m) result (message_at payload.now) }
+    ensures read { GivesReading (λ m. m) result (message_at payload.now) }
     ensures wanted { IfErr result (λ stop. stop ≡ NotRead.NoMemory → ReadsWithMemory payload.now) }
 {
     match payload {
@@ -106,7 +106,7 @@ fn message(alloc: Global, payload: &[u8]) -> Result<Message, NotRead>
 /// Send Headers, read from its second byte on.
 #[tactic(auto, unfolding(crate::specs::Reading::head_at))]
 fn head(alloc: Global, rest: &[u8]) -> Result<Message, NotRead>
-    ensures { Gives (λ m. m) result (head_at rest.now) }
+    ensures { GivesReading (λ m. m) result (head_at rest.now) }
 {
     let (status, rest) = next_int(rest)?;
     let (message, rest) = next_text(alloc, true, rest)?;
@@ -121,7 +121,7 @@ fn head(alloc: Global, rest: &[u8]) -> Result<Message, NotRead>
 
 /// Send Body Chunk, read from its second byte on.
 fn chunk(alloc: Global, rest: &[u8]) -> Result<Message, NotRead>
-    ensures read { Gives (λ m. m) result (chunk_at rest.now) }
+    ensures read { GivesReading (λ m. m) result (chunk_at rest.now) }
     ensures wanted { IfErr result (λ stop. stop ≡ NotRead.NoMemory
         → (bytes : List ℕ) × (chunk_at rest.now ≡ Ok (Message.Chunk bytes))) }
 {
@@ -132,7 +132,7 @@ fn chunk(alloc: Global, rest: &[u8]) -> Result<Message, NotRead>
 /// The data of a chunk, where they lie.
 #[tactic(auto, unfolding(crate::specs::Reading::chunk_at))]
 fn chunk_bytes(rest: &[u8]) -> Result<&[u8], NotRead>
-    ensures read { Gives (λ bytes. Message.Chunk bytes.now) result (chunk_at rest.now) }
+    ensures read { GivesReading (λ bytes. Message.Chunk bytes.now) result (chunk_at rest.now) }
     ensures no_want { IfErr result (λ stop. stop ≢ NotRead.NoMemory) }
 {
     let (size, rest) = next_int(rest)?;
@@ -150,7 +150,7 @@ fn chunk_bytes(rest: &[u8]) -> Result<&[u8], NotRead>
 
 /// End Response, read from its second byte on.
 fn end(rest: &[u8]) -> Result<Message, NotRead>
-    ensures read { Gives (λ m. m) result (end_at rest.now) }
+    ensures read { GivesReading (λ m. m) result (end_at rest.now) }
     ensures no_want { IfErr result (λ stop. stop ≢ NotRead.NoMemory) }
 {
     match rest {
@@ -162,7 +162,7 @@ fn end(rest: &[u8]) -> Result<Message, NotRead>
 /// Get Body Chunk, read from its second byte on.
 #[tactic(auto, unfolding(crate::specs::Reading::ask_at))]
 fn ask(rest: &[u8]) -> Result<Message, NotRead>
-    ensures read { Gives (λ m. m) result (ask_at rest.now) }
+    ensures read { GivesReading (λ m. m) result (ask_at rest.now) }
     ensures no_want { IfErr result (λ stop. stop ≢ NotRead.NoMemory) }
 {
     let (most, rest) = next_int(rest)?;
@@ -171,7 +171,7 @@ fn ask(rest: &[u8]) -> Result<Message, NotRead>
 
 /// The message, where no byte follows it.
 fn ended(message: Message, rest: &[u8]) -> Result<Message, NotRead>
-    ensures read { Gives (λ m. m) result (ended_at message rest.now) }
+    ensures read { GivesReading (λ m. m) result (ended_at message rest.now) }
     ensures no_want { IfErr result (λ stop. stop ≢ NotRead.NoMemory) }
 {
     if rest.is_empty() {

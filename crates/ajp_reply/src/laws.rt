@@ -5,7 +5,7 @@ ghost use Rattle.ajp_wire.specs.Packet.{IsNoPacket, IsTooLong, IsPacket};
 ghost use Rattle.ajp_reply.specs.declared.message.Message.{Message};
 ghost use Rattle.ajp_reply.specs.declared.message.ReplyParts.{ReplyParts};
 ghost use Rattle.ajp_reply.specs.Spelling.{Spells, payload_of, as_read, IsMessage, FieldsFit};
-ghost use Rattle.ajp_reply.specs.Stream.{Spelled, IsStream, GoesOn, IsFront, IsForm, NoReply, BeginsNoMessage};
+ghost use Rattle.ajp_reply.specs.Stream.{Spelled, IsStream, AreNextMessages, IsFront, IsForm, NoReply, BeginsNoMessage};
 
 /// A payload spells one message at most.
 pub fn one_message_a_payload()
@@ -32,7 +32,7 @@ pub fn readings_go_on()
     ensures behind { (most : ℕ) (past later : List Message) (bytes more : List ℕ)
         → Spelled most past bytes → Spelled most later more → Spelled most (later ++ past) (bytes ++ more) }
     ensures only { (most : ℕ) (past all : List Message) (bytes more : List ℕ) → Spelled most past bytes
-        → Spelled most all (bytes ++ more) → GoesOn most past all more }
+        → Spelled most all (bytes ++ more) → AreNextMessages most past all more }
 {}
 
 /// Which bytes are no reply, however they go on. `ok` says which heads may stand in one.

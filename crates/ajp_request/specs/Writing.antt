@@ -106,6 +106,6 @@ pub record TextsFit (forward : Forward) : Type 0 where
   pub server : length forward.server < 65535
 
 -- A request that can be written into a packet of at most this many bytes.
-pub record Fits (most : ℕ) (forward : Forward) : Type 0 where
+pub record FitsForward (most : ℕ) (forward : Forward) : Type 0 where
   pub fields : FieldsFit forward
   pub packet : FitsPacket most (payload_of forward)

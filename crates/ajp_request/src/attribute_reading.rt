@@ -1,6 +1,6 @@
 //! The attributes of a Forward Request, read up to the FF that ends them.
 ghost use Rattle.std.specs.Prelude.{◌≡◌, length, option_map};
-ghost use Rattle.ajp_wire.specs.Reading.{Gives};
+ghost use Rattle.ajp_wire.specs.Reading.{GivesReading};
 ghost use Rattle.ajp_request.specs.Reading.{named_at, attribute_at, attributes_at, stored_in, tail_at};
 
 use crate::attribute::{Attribute, AttributeList, is_stored};
@@ -16,7 +16,7 @@ pub fn next_tail(
     method: Option<Bytes>,
     bytes: &[u8],
 ) -> Result<((Bytes, AttributeList), &[u8]), NotRead>
-    ensures { Gives (λ x. (x.0, x.1.now)) result (tail_at method bytes.now) }
+    ensures { GivesReading (λ x. (x.0, x.1.now)) result (tail_at method bytes.now) }
 {
     let (mut attributes, rest) = next_attributes(alloc, bytes)?;
     if let Some(method) = method {
@@ -33,7 +33,7 @@ pub fn next_tail(
 
 /// The attributes up to FF. Each takes a byte at least.
 fn next_attributes(alloc: Global, bytes: &[u8]) -> Result<(Vec<Attribute>, &[u8]), NotRead>
-    ensures { Gives (λ x. (x.0.items, x.1.now)) result (attributes_at (length bytes.now) bytes.now) }
+    ensures { GivesReading (λ x. (x.0.items, x.1.now)) result (attributes_at (length bytes.now) bytes.now) }
 {
     let mut attributes = Vec::new(alloc);
     let mut rest = bytes;
@@ -57,7 +57,7 @@ fn next_attribute<'a>(
     bytes: &[u8],
     rest: &'a [u8],
 ) -> Result<(Attribute, &'a [u8]), NotRead>
-    ensures { Gives (λ x. (x.0, x.1.now)) result (attribute_at code bytes.now rest.now) }
+    ensures { GivesReading (λ x. (x.0, x.1.now)) result (attribute_at code bytes.now rest.now) }
 {
     if code == NAMED {
         return next_named(alloc, rest);
@@ -75,7 +75,7 @@ fn next_attribute<'a>(
 
 #[tactic(auto, unfolding(crate::specs::Reading::named_at))]
 fn next_named(alloc: Global, rest: &[u8]) -> Result<(Attribute, &[u8]), NotRead>
-    ensures { Gives (λ x. (x.0, x.1.now)) result (named_at rest.now) }
+    ensures { GivesReading (λ x. (x.0, x.1.now)) result (named_at rest.now) }
 {
     let (name, rest) = next_text(alloc, false, rest)?;
     let (value, rest) = next_text(alloc, true, rest)?;

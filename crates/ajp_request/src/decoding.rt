@@ -1,6 +1,6 @@
 //! A Forward Request's payload, read from left to right.
 ghost use Rattle.std.specs.Prelude.{◌≡◌, ◌≢◌, length, IfOk, IfErr};
-ghost use Rattle.ajp_wire.specs.Reading.{Gives, Tells};
+ghost use Rattle.ajp_wire.specs.Reading.{GivesReading, TellsReading};
 ghost use Rattle.ajp_request.specs.declared.forward.Forward.{Forward as AnyForward};
 ghost use Rattle.ajp_wire.specs.FirstPlace.{IsRefused};
 ghost use Rattle.ajp_request.specs.Spelling.{SpellsForward, IsSpelled};
@@ -30,7 +30,7 @@ pub fn decode_forward(alloc: Global, payload: &[u8]) -> Result<Forward, DecodeEr
     ensures refused { IfErr result (λ error. IsRefused IsSpelled payload.now error) }
 
     // The kind of the refusal, read from left to right.
-    ensures exact { Tells (length payload.now) result (forward_of payload.now) }
+    ensures exact { TellsReading (length payload.now) result (forward_of payload.now) }
 {
     match whole_forward(alloc, payload) {
         Ok(forward) => Ok(forward),
@@ -57,7 +57,7 @@ struct Ends {
 }
 
 fn next_boolean(rest: &[u8]) -> Result<(bool, &[u8]), NotRead>
-    ensures { Gives (λ x. (x.0, x.1.now)) result (boolean_at rest.now) }
+    ensures { GivesReading (λ x. (x.0, x.1.now)) result (boolean_at rest.now) }
 {
     match rest {
         [0, rest @ ..] => Ok((false, rest)),
@@ -69,7 +69,7 @@ fn next_boolean(rest: &[u8]) -> Result<(bool, &[u8]), NotRead>
 
 #[tactic(auto, unfolding(crate::specs::Reading::method_at))]
 fn next_method(alloc: Global, rest: &[u8]) -> Result<(Option<Bytes>, &[u8]), NotRead>
-    ensures { Gives (λ x. (x.0, x.1.now)) result (method_at rest.now) }
+    ensures { GivesReading (λ x. (x.0, x.1.now)) result (method_at rest.now) }
 {
     let (code, after) = next_byte(rest)?;
     if code == STORED {
@@ -83,7 +83,7 @@ fn next_method(alloc: Global, rest: &[u8]) -> Result<(Option<Bytes>, &[u8]), Not
 
 #[tactic(auto, unfolding(crate::specs::Reading::line_at))]
 fn next_line(alloc: Global, rest: &[u8]) -> Result<(RequestLine, &[u8]), NotRead>
-    ensures { Gives (λ x. (x.0, x.1.now)) result (line_at rest.now) }
+    ensures { GivesReading (λ x. (x.0, x.1.now)) result (line_at rest.now) }
 {
     let (first, after) = next_byte(rest)?;
     if first != FORWARD_REQUEST {
@@ -102,7 +102,7 @@ fn next_line(alloc: Global, rest: &[u8]) -> Result<(RequestLine, &[u8]), NotRead
 
 #[tactic(auto, unfolding(crate::specs::Reading::ends_at))]
 fn next_ends(alloc: Global, rest: &[u8]) -> Result<(Ends, &[u8]), NotRead>
-    ensures { Gives (λ x. (x.0, x.1.now)) result (ends_at rest.now) }
+    ensures { GivesReading (λ x. (x.0, x.1.now)) result (ends_at rest.now) }
 {
     let (remote_addr, rest) = next_text(alloc, false, rest)?;
     let (remote_host, rest) = next_text(alloc, true, rest)?;
@@ -120,7 +120,7 @@ fn next_ends(alloc: Global, rest: &[u8]) -> Result<(Ends, &[u8]), NotRead>
 }
 
 fn ended(rest: &[u8]) -> Result<(), NotRead>
-    ensures { Gives (λ x. x) result (no_more rest.now) }
+    ensures { GivesReading (λ x. x) result (no_more rest.now) }
 {
     match rest {
         [] => Ok(()),
@@ -130,7 +130,7 @@ fn ended(rest: &[u8]) -> Result<(), NotRead>
 
 #[tactic(auto, unfolding(crate::specs::Reading::forward_of))]
 fn whole_forward(alloc: Global, payload: &[u8]) -> Result<Forward, NotRead>
-    ensures { Gives (λ x. x) result (forward_of payload.now) }
+    ensures { GivesReading (λ x. x) result (forward_of payload.now) }
 {
     let (line, rest) = next_line(alloc, payload)?;
     let (ends, rest) = next_ends(alloc, rest)?;
@@ -144,7 +144,7 @@ fn behind_ends(
     ends: Ends,
     rest: &[u8],
 ) -> Result<Forward, NotRead>
-    ensures { Gives (λ x. x) result (ends_then line ends rest.now) }
+    ensures { GivesReading (λ x. x) result (ends_then line ends rest.now) }
 {
     let (headers, rest) = next_headers(alloc, header_names(), false, rest)?;
     behind_headers(alloc, line, ends, headers, rest)
@@ -158,7 +158,7 @@ fn behind_headers(
     headers: HeadPairs,
     rest: &[u8],
 ) -> Result<Forward, NotRead>
-    ensures { Gives (λ x. x) result (headers_then line ends headers rest.now) }
+    ensures { GivesReading (λ x. x) result (headers_then line ends headers rest.now) }
 {
     let RequestLine {
         method,

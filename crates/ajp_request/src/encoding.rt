@@ -4,7 +4,7 @@ ghost use Rattle.ajp_wire.specs.Packet.{packet};
 ghost use Rattle.ajp_request.specs.Tables.{method_code as code_of_method};
 ghost use Rattle.ajp_request.specs.Parts.{told_by};
 ghost use Rattle.ajp_request.specs.Spelling.{SpellsForward};
-ghost use Rattle.ajp_request.specs.Writing.{line_bytes, ends_bytes, tail_bytes, payload_of, as_read, IsForward, FieldsFit, TextsFit, Fits};
+ghost use Rattle.ajp_request.specs.Writing.{line_bytes, ends_bytes, tail_bytes, payload_of, as_read, IsForward, FieldsFit, TextsFit, FitsForward};
 ghost use Rattle.ajp_wire.specs.declared.head_pairs.TheConstants.{MAX_HEADERS};
 ghost use Rattle.ajp_wire.specs.declared.writing.TheConstants.{PAYLOAD_LIMIT};
 
@@ -31,8 +31,8 @@ pub fn encode_forward(alloc: Global, forward: &Forward, most: u32) -> Result<Byt
     requires { IsForward forward.now }
     ensures ok { IfOk result (λ bytes. bytes ≡ packet false (payload_of forward.now)) }
     ensures spelled { OnOk result (SpellsForward (as_read forward.now) (payload_of forward.now)) }
-    ensures fits { OnOk result (Fits most forward.now) }
-    ensures too_large { result ≡ Err EncodeError.TooLarge → Fits most forward.now → ⊥ }
+    ensures fits { OnOk result (FitsForward most forward.now) }
+    ensures too_large { result ≡ Err EncodeError.TooLarge → FitsForward most forward.now → ⊥ }
 {
     encode_parts(alloc, &parts_of(forward), most)
 }
@@ -42,8 +42,8 @@ pub fn encode_parts(alloc: Global, parts: &ForwardParts, most: u32) -> Result<By
     requires { IsForward (told_by parts.now) }
     ensures ok { IfOk result (λ bytes. bytes ≡ packet false (payload_of (told_by parts.now))) }
     ensures spelled { OnOk result (SpellsForward (as_read (told_by parts.now)) (payload_of (told_by parts.now))) }
-    ensures fits { OnOk result (Fits most (told_by parts.now)) }
-    ensures too_large { result ≡ Err EncodeError.TooLarge → Fits most (told_by parts.now) → ⊥ }
+    ensures fits { OnOk result (FitsForward most (told_by parts.now)) }
+    ensures too_large { result ≡ Err EncodeError.TooLarge → FitsForward most (told_by parts.now) → ⊥ }
 {
     let code = method_code(parts.method);
     let Some(size) = payload_len(parts, code) else {

@@ -15,9 +15,9 @@ use Rattle.http_front.specs.declared.place.Place.{Place}
 use Rattle.http_front.specs.declared.place.Place.TheVariants as at
 use Rattle.http_front.proofs.BodyLemmas.{Uses-nil, Uses-then, data_from-append, next-place}
 use Rattle.jk_io.specs.Moments.{Moment}
-use Rattle.ajp_talk.specs.Moments.{BodyAt, data_at, Traffic, Takes, IsUsed, IsFrontOf}
+use Rattle.ajp_talk.specs.Moments.{BodyAt, data_at, Traffic, TakesOfBody, IsUsed, IsFrontOf}
 use Rattle.ajp_talk.specs.Owed.{behind_first, answer}
-use Rattle.ajp_talk.specs.Turns.{Gives, Sends, IsUntaken}
+use Rattle.ajp_talk.specs.Turns.{GivesData, Sends, IsUntaken}
 
 -- ---- the data
 
@@ -99,11 +99,11 @@ untaken-same b b' u =
     ap (λ (x : BodyIn). record { body = x; unread = b'.unread }) u.body
     ∙ ap (λ (o : Option (List ℕ)). record { body = b.body; unread = o }) u.unread
 
-pub takes-none : (b : BodyAt) → failed_of b.body ≡ None → Takes b b []
+pub takes-none : (b : BodyAt) → failed_of b.body ≡ None → TakesOfBody b b []
 takes-none b going = record { uses = Uses-nil b.unread (place_of b.body); counted = omega arith; going = going; most = refl }
 
-pub takes-then : (n : ℕ) (s m b : BodyAt) (taken piece : List ℕ) → Takes s m taken → Gives n m b piece → taken_of m.body + length piece < 18446744073709551616
-    → Takes s b (taken ++ piece)
+pub takes-then : (n : ℕ) (s m b : BodyAt) (taken piece : List ℕ) → TakesOfBody s m taken → GivesData n m b piece → taken_of m.body + length piece < 18446744073709551616
+    → TakesOfBody s b (taken ++ piece)
 takes-then n s m b taken piece t g fits = record {
   uses = Uses-then s.unread m.unread b.unread (place_of s.body) (place_of m.body) (place_of b.body) taken piece t.uses g.uses;
   counted = omega (arith, g.counts, t.counted, length-append taken piece);
@@ -111,7 +111,7 @@ takes-then n s m b taken piece t g fits = record {
   most = g.most ∙ t.most;
 }
 
-pub used-takes : (s n : BodyAt) (taken : List ℕ) → Takes s n taken → IsUsed s n
+pub used-takes : (s n : BodyAt) (taken : List ℕ) → TakesOfBody s n taken → IsUsed s n
 used-takes s n taken t = record { gone = t.uses.gone; used = t.uses.used; most = t.most }
 
 pub used-then : (s m n : BodyAt) → IsUsed s m → IsUsed m n → IsUsed s n
@@ -121,7 +121,7 @@ used-then s m n a b = record {
   most = b.most ∙ a.most;
 }
 
-pub used-gives : (n : ℕ) (b b' : BodyAt) (piece : List ℕ) → Gives n b b' piece → IsUsed b b'
+pub used-gives : (n : ℕ) (b b' : BodyAt) (piece : List ℕ) → GivesData n b b' piece → IsUsed b b'
 used-gives n b b' piece g = record { gone = g.uses.gone; used = g.uses.used; most = g.most }
 
 nothing : (xs : List ℕ) (a b : ℕ) → a ≡ b + length xs → a ≡ b → xs ≡ []
@@ -132,7 +132,7 @@ behind-none : (d : Data) → behind [] d ≡ d
 behind-none d = refl
 
 -- where no data was taken the data is as before
-pub untaken-data : (s n : BodyAt) (taken : List ℕ) → Takes s n taken → taken_of n.body ≡ taken_of s.body → data_at n ≡ data_at s
+pub untaken-data : (s n : BodyAt) (taken : List ℕ) → TakesOfBody s n taken → taken_of n.body ≡ taken_of s.body → data_at n ≡ data_at s
 untaken-data s n taken t same = of s.unread n.unread t.uses
   where
     empty : taken ≡ []
@@ -152,7 +152,7 @@ untaken-data s n taken t same = of s.unread n.unread t.uses
     of before (Some ys) u = told before ys u
 
 -- the data was what was taken, and what is left
-pub takes-data : (s n : BodyAt) (taken : List ℕ) → Takes s n taken → data_at s ≡ option_map (behind taken) (data_at n)
+pub takes-data : (s n : BodyAt) (taken : List ℕ) → TakesOfBody s n taken → data_at s ≡ option_map (behind taken) (data_at n)
 takes-data s n taken t = of s.unread n.unread t.uses
   where
     told : (before : Option (List ℕ)) (ys : List ℕ) → Uses before (Some ys) (place_of s.body) (place_of n.body) taken
@@ -186,5 +186,5 @@ limited-start [] p q e limited = (let same : p ≡ q = cc in ap is_limited same 
 limited-start (b ∷ gone) p q e limited = limited-step p b (limited-start gone (step p b) q (next-place b gone p q e).1 limited)
 
 -- a body that is chunked was so at first
-pub takes-limited : (s n : BodyAt) (taken : List ℕ) → Takes s n taken → is_limited (place_of n.body) ≡ true → is_limited (place_of s.body) ≡ true
+pub takes-limited : (s n : BodyAt) (taken : List ℕ) → TakesOfBody s n taken → is_limited (place_of n.body) ≡ true → is_limited (place_of s.body) ≡ true
 takes-limited s n taken t limited = limited-start t.uses.gone (place_of s.body) (place_of n.body) t.uses.own limited

@@ -19,11 +19,11 @@ use Rattle.http_out.specs.ReplyBytes.{so_far, so_far_of}
 use Rattle.http_out.specs.Writer.{Writer, framing_now, after_head, after_chunk, chunk_bytes, end_bytes}
 use Rattle.http_out.proofs.ReplyLaws.{grows, ends}
 use Rattle.jk_io.specs.Moments.{Moment}
-use Rattle.ajp_talk.specs.Moments.{BodyAt, TalkMoment, data_at, Traffic, IsSteady, Takes, IsFrontOf}
+use Rattle.ajp_talk.specs.Moments.{BodyAt, TalkMoment, data_at, Traffic, IsSteady, TakesOfBody, IsFrontOf}
 use Rattle.ajp_talk.specs.Replies.{is_good, is_listed, head_out, kind_of, chunks_of, sum_of, framing_in, exceeds, agrees, so_far_of_talk, whole_of, told_by}
 use Rattle.ajp_talk.specs.Owed.{want, asked, answer, behind_first, answers, pong_of, opening, owed}
 use Rattle.ajp_talk.specs.Courses.{writer_for, Stands}
-use Rattle.ajp_talk.specs.Turns.{IsHeard, Sends, Gives, with_head, with_chunk}
+use Rattle.ajp_talk.specs.Turns.{IsHeard, Sends, GivesData, with_head, with_chunk}
 use Rattle.ajp_talk.specs.Ends.{IsPlan}
 use Rattle.ajp_talk.specs.declared.plan.TalkPlan.{TalkPlan}
 use Rattle.ajp_talk.specs.declared.course.Course.{Course}
@@ -118,7 +118,7 @@ stand_head plan s m n c c' count parts past came put bytes st nx none good unlis
       below = omega (arith, received, nx.below);
       few = omega (arith, st.few, received, nx.more);
       taken = st.taken;
-      takes = subst (λ (b : BodyAt). Takes s.body b st.taken) (sym body) st.takes;
+      takes = subst (λ (b : BodyAt). TakesOfBody s.body b st.taken) (sym body) st.takes;
       left = ap data_at body ∙ st.left;
       asked_for = st.asked_for;
       little = omega (arith, st.little, received, nx.more, ap (λ (b : BodyAt). taken_of b.body) body);
@@ -212,7 +212,7 @@ stand_chunk plan s m n c c' count chunk past came put bytes fit st nx some withi
       below = omega (arith, received, nx.below);
       few = omega (arith, st.few, received, nx.more);
       taken = st.taken;
-      takes = subst (λ (b : BodyAt). Takes s.body b st.taken) (sym body) st.takes;
+      takes = subst (λ (b : BodyAt). TakesOfBody s.body b st.taken) (sym body) st.takes;
       left = ap data_at body ∙ st.left;
       asked_for = st.asked_for;
       little = omega (arith, st.little, received, nx.more, ap (λ (b : BodyAt). taken_of b.body) body);
@@ -236,7 +236,7 @@ want-piece plan n fit =
 
 pub stand_ask : (plan : TalkPlan) (s m n : TalkMoment) (l : Moment) (c c' : Course) (count ask : ℕ) (piece more : List ℕ) (past : List Message) (came put bytes : List ℕ)
     → IsPlan plan → Stands plan s m c past came put → Next plan s l c count (Ask ask) past came put bytes
-    → Gives (want plan.piece ask) m.body n.body piece → Sends l n.line c.sent c'.sent more → IsFrontOf more (body_packet piece)
+    → GivesData (want plan.piece ask) m.body n.body piece → Sends l n.line c.sent c'.sent more → IsFrontOf more (body_packet piece)
     → c' ≡ record c { received = count; sent = c'.sent } → n.client.sent ≡ m.client.sent
     → Stands plan s n c' (Ask ask ∷ past) (came ++ bytes) (put ++ more)
 stand_ask plan s m n l c c' count ask piece more past came put bytes fit st nx gives sends front is written =
@@ -272,7 +272,7 @@ both-then (Some d) P Q R p q f = f d p q
 
 -- the answer is what is owed for the ask
 pub owed-answer : (plan : TalkPlan) (s m : BodyAt) (n : BodyAt) (ask : ℕ) (piece : List ℕ) (past : List Message)
-    → data_at m ≡ dropped (asked plan.piece past) (data_at s) → Gives (want plan.piece ask) m n piece
+    → data_at m ≡ dropped (asked plan.piece past) (data_at s) → GivesData (want plan.piece ask) m n piece
     → IfSome (data_at s) (λ d. body_packet piece ≡ answer (want plan.piece ask) (behind_first (asked plan.piece past) d))
 owed-answer plan s m n ask piece past left gives =
     left-then (asked plan.piece past) (data_at s) (data_at m) _ _ left (λ d h. told-answer (want plan.piece ask) (behind_first (asked plan.piece past) d) piece h) gives.data'

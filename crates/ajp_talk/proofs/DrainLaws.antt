@@ -18,7 +18,7 @@ use Rattle.http_out.specs.Writer.{counted as counted_chunk}
 use Rattle.jk_io.specs.Moments.{Moment}
 use Rattle.ajp_talk.specs.Moments.{IsSteady}
 use Rattle.ajp_talk.specs.Replies.{sum_of, exceeds, chunks_of, agrees}
-use Rattle.ajp_talk.specs.Turns.{Came, IsHeard, IsUnheard, IsOnCourse, IsChunkTurn, IsEndTurn, CameUnheard, IsChunkFailure, IsUnread}
+use Rattle.ajp_talk.specs.Turns.{Came, IsHeard, IsUnheard, IsOnCourse, IsChunkTurn, IsEndTurn, CameUnheard, IsChunkFailure, IsUnreadPacket}
 use Rattle.ajp_talk.specs.Drains.{IsLostCourse, chunk_messages, IsDropped, Drains, IsNoTail, EndsRest, IsDrained, rest_after, rest_without, IsClosing, IsDroppedMessage, IsDrop}
 use Rattle.ajp_talk.specs.Ends.{IsPlan}
 use Rattle.ajp_talk.specs.declared.plan.TalkPlan.{TalkPlan}
@@ -155,7 +155,7 @@ no_tail-head plan c chunks bytes rest payload s p begins = λ later t sum.
         let first : f.0 ≡ End true = cc in
         no-end-head f.0 f.3.payload first f.3.spelled (begins.0, sym one.0 ∙ begins.1)
 
-no_tail-unread : (plan : TalkPlan) (c : Course) (chunks : List (List ℕ)) (bytes rest : List ℕ) → Spelled plan.packet (chunk_messages chunks) bytes → IsUnread plan.packet rest
+no_tail-unread : (plan : TalkPlan) (c : Course) (chunks : List (List ℕ)) (bytes rest : List ℕ) → Spelled plan.packet (chunk_messages chunks) bytes → IsUnreadPacket plan.packet rest
     → IsNoTail plan c (bytes ++ rest)
 no_tail-unread plan c chunks bytes rest s (inl part) = no_tail-part plan c chunks bytes rest s part
 no_tail-unread plan c chunks bytes rest s (inr h) = no_tail-head plan c chunks bytes rest h.0 s h.1 h.2

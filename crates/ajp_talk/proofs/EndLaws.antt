@@ -11,15 +11,15 @@ use Rattle.ajp_reply.specs.declared.message.Message.TheVariants.{Headers, Chunk,
 use Rattle.ajp_reply.specs.Stream.{IsFront, IsForm, head_of, Spelled}
 use Rattle.http_front.specs.Body.{Data, reaches, behind, dropped}
 use Rattle.http_front.specs.State.{taken_of, most_of}
-use Rattle.http_out.specs.Writer.{Writer, IsOpen, chunk_bytes, end_bytes}
+use Rattle.http_out.specs.Writer.{Writer, IsOpenReply, chunk_bytes, end_bytes}
 use Rattle.jk_io.specs.Moments.{Moment}
-use Rattle.ajp_talk.specs.Moments.{BodyAt, TalkMoment, data_at, Traffic, IsSteady, Takes, IsUsed, IsFrontOf}
+use Rattle.ajp_talk.specs.Moments.{BodyAt, TalkMoment, data_at, Traffic, IsSteady, TakesOfBody, IsUsed, IsFrontOf}
 use Rattle.ajp_talk.specs.Replies.{is_good, kind_of, chunks_of, so_far_of_talk, bytes_for, told_by}
 use Rattle.ajp_talk.specs.Owed.{want, asked, answer, behind_first, pong_of, opening, owed}
-use Rattle.ajp_talk.specs.Talk.{IsDone, IsGone, IsBrokenOff, HasBadBody, IsBad, HasWanted, IsNoEnd}
+use Rattle.ajp_talk.specs.Talk.{IsDone, IsGone, IsBrokenOff, HasBadBody, IsBadBody, HasWanted, IsNoEnd}
 use Rattle.ajp_talk.specs.Talk as halt_is
 use Rattle.ajp_talk.specs.Courses.{At}
-use Rattle.ajp_talk.specs.Turns.{IsHeard, IsUnheard, Sends, Gives, IsEndTurn, Acts, IsTurn, IsUntaken, IsOnCourse, turn_of}
+use Rattle.ajp_talk.specs.Turns.{IsHeard, IsUnheard, Sends, GivesData, IsEndTurn, Acts, IsTurn, IsUntaken, IsOnCourse, turn_of}
 use Rattle.ajp_talk.specs.Ends.{IsPlan, told_end, bytes_end}
 use Rattle.ajp_talk.specs.declared.plan.TalkPlan.{TalkPlan}
 use Rattle.ajp_talk.specs.declared.course.Course.{Course}
@@ -73,7 +73,7 @@ module _ (plan : TalkPlan) (s m n : TalkMoment) (c c' : Course) where
   owed-same a = a.owed
 
   on_ask : (a : At plan s m c) (ask count : ℕ) (l : Moment) (bytes piece : List ℕ) → IsPlan plan → NextAt a l count (Ask ask) bytes
-      → Gives (want plan.piece ask) m.body n.body piece → Sends l n.line c.sent c'.sent (body_packet piece) → IsSteady l n.line
+      → GivesData (want plan.piece ask) m.body n.body piece → Sends l n.line c.sent c'.sent (body_packet piece) → IsSteady l n.line
       → c' ≡ record c { received = count; sent = c'.sent } → n.client.sent ≡ m.client.sent → At plan s n c'
   on_ask a ask count l bytes piece fit nx gives sends steady is written = record {
     past = Ask ask ∷ a.past;
@@ -154,7 +154,7 @@ module _ (plan : TalkPlan) (s m n : TalkMoment) (c c' : Course) where
         told_is = subst (λ (t : Told). IfSome (head_of a.past) (λ parts. t ≡ told_by (kind_of plan) parts (chunks_of a.past))) (sym (ap (λ (x : Course). x.told) h.3)) a.stands.told;
         counted = bytes-are c' a.put (pong_of plan ++ (a.came ++ bytes)) sent (received ∙ nx.counts) (few-sent plan s m c a.past a.came a.put fit a.stands) (omega (arith, received, nx.below, fit.most));
         taken = a.stands.taken;
-        takes = subst (λ (b : BodyAt). Takes s.body b a.stands.taken) (sym body) a.stands.takes;
+        takes = subst (λ (b : BodyAt). TakesOfBody s.body b a.stands.taken) (sym body) a.stands.takes;
         left = ap data_at body ∙ a.stands.left;
       }
 
@@ -319,7 +319,7 @@ module _ (plan : TalkPlan) (s m n : TalkMoment) (c c' : Course) where
 
   -- ---- the body is bad
 
-  bad-why : (a : At plan s m c) (ask status : ℕ) → IsPlan plan → IsBad m.body (want plan.piece ask) status → IsBad s.body (asked plan.piece (Ask ask ∷ a.past)) status
+  bad-why : (a : At plan s m c) (ask status : ℕ) → IsPlan plan → IsBadBody m.body (want plan.piece ask) status → IsBadBody s.body (asked plan.piece (Ask ask ∷ a.past)) status
   bad-why a ask status fit (inl h) = inl (h.0, asked-of a ask true fit h.1)
   bad-why a ask status fit (inr h) = inr (h.0, takes-limited s.body m.body a.stands.taken a.stands.takes h.1, limit-of a (want plan.piece ask) h.2)
 
@@ -375,7 +375,7 @@ module _ (plan : TalkPlan) (s m n : TalkMoment) (c c' : Course) where
       sent = IfSome_then (data_at s.body) a.owed (λ d e. subst (λ (x : List ℕ). IsFrontOf x (owed plan d a.past)) (sym e) (front-all (owed plan d a.past)));
       opened = inr a.opened;
       written = all_put s.client.sent n.client.sent (bytes_for plan a.past) (written ∙ a.stands.written ∙ ap (appended s.client.sent) (so_far-for a.past a.stands.accepts.front));
-      body = used-takes s.body n.body a.stands.taken (subst (λ (b : BodyAt). Takes s.body b a.stands.taken) (sym body) a.stands.takes);
+      body = used-takes s.body n.body a.stands.taken (subst (λ (b : BodyAt). TakesOfBody s.body b a.stands.taken) (sym body) a.stands.takes);
     };
   }
     where
@@ -403,7 +403,7 @@ module _ (plan : TalkPlan) (s m n : TalkMoment) (c c' : Course) where
         opened = inr a.opened;
         written = subst (PutsFront s.client.sent n.client.sent) whole
             (then_put s.client.sent m.client.sent n.client.sent (so_far_of_talk plan a.past) more a.stands.written puts);
-        body = used-takes s.body n.body a.stands.taken (subst (λ (b : BodyAt). Takes s.body b a.stands.taken) (sym body) a.stands.takes);
+        body = used-takes s.body n.body a.stands.taken (subst (λ (b : BodyAt). TakesOfBody s.body b a.stands.taken) (sym body) a.stands.takes);
       }
 
   pub chunk_broken : (a : At plan s m c) (chunk : List ℕ) (count : ℕ) (bytes : List ℕ) → NextAt a n.line count (Chunk chunk) bytes → c.headers ≡ true
@@ -498,6 +498,6 @@ on_more plan s m n c c' a fit (inr t) = of t.message t.mid t.count t.heard t.act
 -- the writer is as the course says
 pub on_course : (plan : TalkPlan) (s m : TalkMoment) (c : Course) → At plan s m c → IsOnCourse c
 on_course plan s m c a = record {
-  opened = λ e. subst IsOpen (sym a.stands.writer) (writer-open (kind_of plan) (head_of a.past) (chunks_of a.past) (sym a.stands.headers ∙ e));
+  opened = λ e. subst IsOpenReply (sym a.stands.writer) (writer-open (kind_of plan) (head_of a.past) (chunks_of a.past) (sym a.stands.headers ∙ e));
   fresh = λ e. ap (λ (w : Writer). w.framing) a.stands.writer ∙ writer-fresh (kind_of plan) (head_of a.past) (chunks_of a.past) (sym a.stands.headers ∙ e);
 }

@@ -11,11 +11,11 @@ use Rattle.http_front.specs.Body.{Data}
 use Rattle.http_front.specs.State.{taken_of, failed_of}
 use Rattle.http_front.specs.Walks.{counted}
 use Rattle.jk_io.specs.Moments.{Moment}
-use Rattle.ajp_talk.specs.Moments.{BodyAt, TalkMoment, data_at, Traffic, IsSteady, Takes, IsFrontOf}
+use Rattle.ajp_talk.specs.Moments.{BodyAt, TalkMoment, data_at, Traffic, IsSteady, TakesOfBody, IsFrontOf}
 use Rattle.ajp_talk.specs.Owed.{ping_of, pong_of, first_packet, request_of, opening, owed, IsSealed}
 use Rattle.ajp_talk.specs.Talk.{IsTalk, HasFailed, HasNoPong, IsPingCause, HasWanted, SentFor}
-use Rattle.ajp_talk.specs.Courses.{Stands, At, fresh, Begins}
-use Rattle.ajp_talk.specs.Turns.{Came, IsHeard, IsUnheard, Sends, pong_only, HasNoAnswer, IsAnswered, IsGreeting, IsUnanswered}
+use Rattle.ajp_talk.specs.Courses.{Stands, At, fresh, BeginsCourse}
+use Rattle.ajp_talk.specs.Turns.{Came, IsHeard, IsUnheard, Sends, pong_only, HasNoAnswer, IsPingAnswered, IsGreeting, IsUnanswered}
 use Rattle.ajp_talk.specs.Ends.{IsPlan, stage_end, told_end, bytes_end, failed_end, unanswered_end}
 use Rattle.ajp_talk.specs.declared.plan.TalkPlan.{TalkPlan}
 use Rattle.ajp_talk.specs.declared.course.Course.{Course}
@@ -42,7 +42,7 @@ ping-length plan =
     ]
 
 -- no CPing is wanted
-pub not_wanted : (plan : TalkPlan) (l : Moment) (sent received : ℕ) → plan.ping ≡ false → 0 < plan.most → sent ≡ 0 → received ≡ 0 → IsAnswered plan l l sent received
+pub not_wanted : (plan : TalkPlan) (l : Moment) (sent received : ℕ) → plan.ping ≡ false → 0 < plan.most → sent ≡ 0 → received ≡ 0 → IsPingAnswered plan l l sent received
 not_wanted plan l sent received none some none_sent none_received =
     let ping : ping_of plan ≡ [] = cond-false plan.ping (packet false (10 ∷ [])) [] none in
     let pong : pong_of plan ≡ [] = cond-false plan.ping (packet true (9 ∷ [])) [] none in
@@ -200,7 +200,7 @@ request-length plan fit =
     omega (arith, sealed-length plan.forward fit.forward, first-length plan.first, length-append plan.forward (first_packet plan.first), fit.first, fit.piece)
 
 module _ (plan : TalkPlan) (s n : TalkMoment) (mid : Moment) (before sent received : ℕ) where
-  pub stand_begun : (put : List ℕ) → IsPlan plan → taken_of s.body.body ≡ length plan.first → failed_of s.body.body ≡ None → IsAnswered plan s.line mid before received
+  pub stand_begun : (put : List ℕ) → IsPlan plan → taken_of s.body.body ≡ length plan.first → failed_of s.body.body ≡ None → IsPingAnswered plan s.line mid before received
       → Sends mid n.line before sent put → IsFrontOf put (request_of plan) → n.client ≡ s.client → n.body ≡ s.body
       → Stands plan s n (fresh plan sent received) [] [] (ping_of plan ++ put)
   stand_begun put fit first going h d front client body =
@@ -221,7 +221,7 @@ module _ (plan : TalkPlan) (s n : TalkMoment) (mid : Moment) (before sent receiv
         below = h.below;
         few = omega (arith, short, long, five, length-append (ping_of plan) put);
         taken = [];
-        takes = subst (λ (b : BodyAt). Takes s.body b []) (sym body) (takes-none s.body going);
+        takes = subst (λ (b : BodyAt). TakesOfBody s.body b []) (sym body) (takes-none s.body going);
         left = ap data_at body ∙ dropped-none (data_at s.body);
         asked_for = omega arith;
         little = omega (arith, ap (λ (b : BodyAt). taken_of b.body) body, first, fit.first, fit.piece);
@@ -235,7 +235,7 @@ module _ (plan : TalkPlan) (s n : TalkMoment) (mid : Moment) (before sent receiv
   front-owed put None front = tt
   front-owed put (Some d) front = subst (IsFrontOf (ping_of plan ++ put)) (sym (append-nil (opening plan))) (front-behind (ping_of plan) put (request_of plan) front)
 
-  pub begun : IsPlan plan → taken_of s.body.body ≡ length plan.first → failed_of s.body.body ≡ None → IsAnswered plan s.line mid before received
+  pub begun : IsPlan plan → taken_of s.body.body ≡ length plan.first → failed_of s.body.body ≡ None → IsPingAnswered plan s.line mid before received
       → Sends mid n.line before sent (request_of plan) → IsSteady mid n.line → n.client ≡ s.client → n.body ≡ s.body → At plan s n (fresh plan sent received)
   begun fit first going h d steady client body = record {
     past = [];
@@ -247,7 +247,7 @@ module _ (plan : TalkPlan) (s n : TalkMoment) (mid : Moment) (before sent receiv
     steady = steady ∙ h.steady;
   }
 
-  pub request_failed : (put : List ℕ) → IsPlan plan → taken_of s.body.body ≡ length plan.first → failed_of s.body.body ≡ None → IsAnswered plan s.line mid before received
+  pub request_failed : (put : List ℕ) → IsPlan plan → taken_of s.body.body ≡ length plan.first → failed_of s.body.body ≡ None → IsPingAnswered plan s.line mid before received
       → s.line.faults ≤ mid.faults → Sends mid n.line before sent put → IsFrontOf put (request_of plan) → Rose mid.faults n.line.faults → n.client ≡ s.client → n.body ≡ s.body
       → HasFailed plan s n (stage_end plan (fresh plan sent received) (taken_of n.body.body)) cause_is.Line (told_end (fresh plan sent received)) (bytes_end (fresh plan sent received))
   request_failed put fit first going h faults d front rose client body =
@@ -257,7 +257,7 @@ module _ (plan : TalkPlan) (s n : TalkMoment) (mid : Moment) (before sent receiv
       (below-limit cause_is.Line plan.most received (λ e. absurd cc) h.below)
       (inl (front-behind (ping_of plan) put (request_of plan) front)) (front-owed put (data_at s.body) front) (λ some. absurd cc) refl refl (record { sent = refl; passed = refl; told = refl }) refl st.received (omega (arith, h.below, fit.most))
 
-  pub request_wanted : (put : List ℕ) → IsPlan plan → taken_of s.body.body ≡ length plan.first → failed_of s.body.body ≡ None → IsAnswered plan s.line mid before received
+  pub request_wanted : (put : List ℕ) → IsPlan plan → taken_of s.body.body ≡ length plan.first → failed_of s.body.body ≡ None → IsPingAnswered plan s.line mid before received
       → Sends mid n.line before sent put → IsFrontOf put (request_of plan) → IsSteady mid n.line → n.client ≡ s.client → n.body ≡ s.body → HasWanted plan s n
   request_wanted put fit first going h d front steady client body =
       let st = stand_begun put fit first going h d front client body in
@@ -282,15 +282,15 @@ module _ (plan : TalkPlan) (s n : TalkMoment) (mid : Moment) (before sent receiv
 
 module _ (plan : TalkPlan) (l mid l' : Moment) (c : Course) (before sent received : ℕ) where
   -- the course so far is one where nothing of a reply came
-  pub begins_on : IsPlan plan → c ≡ fresh plan sent received → IsAnswered plan l mid before received → Sends mid l' before sent (request_of plan) → IsSteady mid l'
-      → Begins plan l l' c None
+  pub begins_on : IsPlan plan → c ≡ fresh plan sent received → IsPingAnswered plan l mid before received → Sends mid l' before sent (request_of plan) → IsSteady mid l'
+      → BeginsCourse plan l l' c None
   begins_on fit is h d steady = λ w b first going.
       let s : TalkMoment = record { line = l; client = w; body = b } in
       let n : TalkMoment = record { line = l'; client = w; body = b } in
       subst (At plan s n) (sym is) (begun plan s n mid before sent received fit first going h d steady refl refl)
 
-  pub begins_failed : (put : List ℕ) (taken : ℕ) → IsPlan plan → taken ≡ length plan.first → c ≡ fresh plan sent received → IsAnswered plan l mid before received → l.faults ≤ mid.faults
-      → Sends mid l' before sent put → IsFrontOf put (request_of plan) → Rose mid.faults l'.faults → Begins plan l l' c (Some (Ok (failed_end plan c taken cause_is.Line)))
+  pub begins_failed : (put : List ℕ) (taken : ℕ) → IsPlan plan → taken ≡ length plan.first → c ≡ fresh plan sent received → IsPingAnswered plan l mid before received → l.faults ≤ mid.faults
+      → Sends mid l' before sent put → IsFrontOf put (request_of plan) → Rose mid.faults l'.faults → BeginsCourse plan l l' c (Some (Ok (failed_end plan c taken cause_is.Line)))
   begins_failed put taken fit counted is h faults d front rose = λ w b first going.
       let s : TalkMoment = record { line = l; client = w; body = b } in
       let n : TalkMoment = record { line = l'; client = w; body = b } in
@@ -299,13 +299,13 @@ module _ (plan : TalkPlan) (l mid l' : Moment) (c : Course) (before sent receive
       subst (λ (k : Course). IsTalk plan s n (Ok (failed_end plan k taken cause_is.Line))) (sym is)
       (subst (λ (t : ℕ). IsTalk plan s n (Ok (failed_end plan (fresh plan sent received) t cause_is.Line))) (first ∙ sym counted) end)
 
-  pub begins_wanted : (put : List ℕ) (want : NoMemory) → IsPlan plan → IsAnswered plan l mid before received
-      → Sends mid l' before sent put → IsFrontOf put (request_of plan) → IsSteady mid l' → Begins plan l l' c (Some (Err want))
+  pub begins_wanted : (put : List ℕ) (want : NoMemory) → IsPlan plan → IsPingAnswered plan l mid before received
+      → Sends mid l' before sent put → IsFrontOf put (request_of plan) → IsSteady mid l' → BeginsCourse plan l l' c (Some (Err want))
   begins_wanted put want fit h d front steady = λ w b first going.
       inl (request_wanted plan (record { line = l; client = w; body = b }) (record { line = l'; client = w; body = b }) mid before sent received put fit first going h d front steady refl refl)
 
 pub begins_unanswered : (plan : TalkPlan) (l l' : Moment) (c : Course) (sent received : ℕ) (want : NoMemory) (why : Unheard) → HasNoAnswer plan l l' sent received why
-    → Begins plan l l' c (Some (unanswered_end want sent received why))
+    → BeginsCourse plan l l' c (Some (unanswered_end want sent received why))
 begins_unanswered plan l l' c sent received want why h = λ w b first going.
     unanswered_talk plan (record { line = l; client = w; body = b }) (record { line = l'; client = w; body = b }) sent received want why h refl refl
 

@@ -11,7 +11,7 @@ use Rattle.ajp_reply.proofs.StreamLaws.{spelled-behind, one_reading, goes_on, no
 use Rattle.http_out.specs.declared.framing.Framing.{Framing}
 use Rattle.http_out.specs.declared.framing.Framing.TheVariants as By
 use Rattle.http_out.specs.Framing.{spent}
-use Rattle.http_out.specs.Writer.{Writer, IsOpen, framing_now, framing_after, chunk_bytes, end_bytes}
+use Rattle.http_out.specs.Writer.{Writer, IsOpenReply, framing_now, framing_after, chunk_bytes, end_bytes}
 use Rattle.http_out.specs.Writer.{counted as counted_chunk}
 use Rattle.jk_io.specs.Moments.{Moment}
 use Rattle.ajp_talk.specs.Moments.{BodyAt, TalkMoment, Traffic, IsSteady, IsUsed, IsFrontOf}
@@ -21,7 +21,7 @@ use Rattle.ajp_talk.specs.Talk.{IsGone, IsBrokenOff, IsNoEnd, Halt, IsHalted, Is
 use Rattle.ajp_talk.specs.Talk as halt_is
 use Rattle.ajp_talk.specs.Courses.{writer_for, At}
 use Rattle.ajp_talk.specs.Turns.{IsHeard, Acts, IsTurn, CameUnheard}
-use Rattle.ajp_talk.specs.Drains.{IsLostCourse, chunk_messages, IsTail, IsDropped, Drains, IsNoTail, EndsRest, IsStopped, IsCutShort}
+use Rattle.ajp_talk.specs.Drains.{IsLostCourse, chunk_messages, IsTail, IsDropped, Drains, IsNoTail, EndsRest, IsAfterChunks, IsCutShort}
 use Rattle.ajp_talk.specs.Ends.{IsPlan, bytes_end}
 use Rattle.ajp_talk.specs.declared.plan.TalkPlan.{TalkPlan}
 use Rattle.ajp_talk.specs.declared.course.Course.{Course}
@@ -206,7 +206,7 @@ no_end-from plan s n c c' a bytes none received = λ all r below.
 spent-now : (w w' : Writer) (chunk : List ℕ) → w'.framing ≡ (counted_chunk w chunk).framing → framing_now w' ≡ spent (framing_now w) (length chunk)
 spent-now w w' chunk e = ap (λ (o : Option Framing). unwrap_or o By.NoBody) e
 
-open-spent : (w w' : Writer) (chunk : List ℕ) → w'.framing ≡ (counted_chunk w chunk).framing → w'.ended ≡ w.ended → w.ended ≡ false → IsOpen w'
+open-spent : (w w' : Writer) (chunk : List ℕ) → w'.framing ≡ (counted_chunk w chunk).framing → w'.ended ≡ w.ended → w.ended ≡ false → IsOpenReply w'
 open-spent w w' chunk e ended going = record { framing = spent (framing_now w) (length chunk); given = e; goes_on = ended ∙ going }
 
 module _ (plan : TalkPlan) (s m n : TalkMoment) (c c' : Course) where
@@ -379,7 +379,7 @@ broken-behind plan s n p past came put bytes b d body =
 
 -- why the rest wasn't read on, as it is said of all that came after CPong
 module _ (plan : TalkPlan) (s n p : TalkMoment) (c c' : Course) (a : LostAt plan s n c) (bytes : List ℕ) (want : Bool) where
-  stopped : (t : IsStopped plan c bytes) (message : Message) → t.message ≡ message → EndsRest c t.chunks message → (why : Halt) × IsHalted plan s p (a.came ++ bytes) why
+  stopped : (t : IsAfterChunks plan c bytes) (message : Message) → t.message ≡ message → EndsRest c t.chunks message → (why : Halt) × IsHalted plan s p (a.came ++ bytes) why
   stopped t message is stops = of message (subst (λ (x : Message). Spelled plan.packet (x ∷ chunk_messages t.chunks) bytes) is t.spelled) stops
     where
       some : is_some (head_of a.past) ≡ true
@@ -464,7 +464,7 @@ module _ (plan : TalkPlan) (s n p : TalkMoment) (c c' : Course) (a : LostAt plan
       of unheard_is.TooLong h = (halt_is.Full, omega (arith, h.0, received))
       of unheard_is.NoMemory h = (halt_is.Starved, (omega (arith, h.0, received), h.2 ∙ a.steady))
 
-  halts : IsStopped plan c bytes ⊎ IsCutShort plan n.line p.line c' bytes want → c'.received ≡ length (pong_of plan ++ (a.came ++ bytes)) → (why : Halt) × IsHalted plan s p (a.came ++ bytes) why
+  halts : IsAfterChunks plan c bytes ⊎ IsCutShort plan n.line p.line c' bytes want → c'.received ≡ length (pong_of plan ++ (a.came ++ bytes)) → (why : Halt) × IsHalted plan s p (a.came ++ bytes) why
   halts (inl t) received = stopped t t.message refl t.stops
   halts (inr t) received = short t received
 

@@ -13,7 +13,7 @@ use Rattle.http_out.specs.declared.content_length.ContentLength.TheVariants as S
 use Rattle.http_out.specs.Head.{IsReplyHead, is_text, is_field, content_length}
 use Rattle.http_out.specs.Framing.{framing_of, is_beyond, is_complete, spent}
 use Rattle.http_out.specs.ReplyBytes.{has_begun}
-use Rattle.http_out.specs.Writer.{Writer, IsOpen, IsJudged, framing_after, after_head}
+use Rattle.http_out.specs.Writer.{Writer, IsOpenReply, IsJudgedReplyHead, framing_after, after_head}
 use Rattle.ajp_talk.specs.Replies.{head_out, is_readable, is_good, sum_of, exceeds, agrees, has_passed, told_with, told_by}
 use Rattle.http_out.specs.declared.reply_head.OutError.TheVariants as Out
 use Rattle.ajp_talk.specs.Courses.{writer_for}
@@ -135,7 +135,7 @@ pub writer-passed : (kind : RequestKind) (o : Option ReplyParts) (chunks : List 
 writer-passed kind None chunks = refl
 writer-passed kind (Some parts) chunks = refl
 
-pub writer-open : (kind : RequestKind) (o : Option ReplyParts) (chunks : List (List ℕ)) → is_some o ≡ true → IsOpen (writer_for kind o chunks)
+pub writer-open : (kind : RequestKind) (o : Option ReplyParts) (chunks : List (List ℕ)) → is_some o ≡ true → IsOpenReply (writer_for kind o chunks)
 writer-open kind None chunks e = absurd cc
 writer-open kind (Some parts) chunks e = record { framing = framing_after (framing_of kind (head_out parts)) chunks; given = refl; goes_on = refl }
 
@@ -154,12 +154,12 @@ pub first-head : (kind : RequestKind) (o : Option ReplyParts) (chunks : List (Li
 first-head kind o chunks parts none first = rw (none, first) refl
 
 -- a head that was judged, as the course has it
-pub head-refused : (c : Course) (parts : ReplyParts) (head : ReplyHead) (w : Writer) → head ≡ head_out parts → IsJudged head c.writer w (Err Out.BadReply)
+pub head-refused : (c : Course) (parts : ReplyParts) (head : ReplyHead) (w : Writer) → head ≡ head_out parts → IsJudgedReplyHead head c.writer w (Err Out.BadReply)
     → ((c.headers ≡ true) ⊎ (is_good parts ≡ false)) × (◌≡◌ {A = Course} (record c { writer = w; headers = true }) (with_seen c))
 head-refused c parts head w is j =
     (inr (bad-from parts (subst (λ (h : ReplyHead). ¬ (IsReplyHead h)) is j.0)), ap (λ (x : Writer). record c { writer = x; headers = true }) j.1)
 
-pub head-taken : (c : Course) (parts : ReplyParts) (head : ReplyHead) (w : Writer) → head ≡ head_out parts → IsJudged head c.writer w (Ok tt)
+pub head-taken : (c : Course) (parts : ReplyParts) (head : ReplyHead) (w : Writer) → head ≡ head_out parts → IsJudgedReplyHead head c.writer w (Ok tt)
     → (is_good parts ≡ true) × (◌≡◌ {A = Course} (record c { writer = w; headers = true; told = record { status = parts.status; body = 0 } }) (with_head c parts))
 head-taken c parts head w is j = (
   good-from parts (subst IsReplyHead is j.0),

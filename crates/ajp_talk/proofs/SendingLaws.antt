@@ -18,7 +18,7 @@ use Rattle.jk_io.specs.Moments.{Moment}
 use Rattle.ajp_talk.specs.Moments.{BodyAt, data_at, IsSteady, IsUsed, IsFrontOf}
 use Rattle.ajp_talk.specs.declared.plan.TalkPlan.{TalkPlan}
 use Rattle.ajp_talk.specs.Owed.{answer, first_packet, request_of}
-use Rattle.ajp_talk.specs.Turns.{Sends, IsSent, Gives, IsAskTurn, IsCalmTurn, fault_turn, turn_of_sent}
+use Rattle.ajp_talk.specs.Turns.{Sends, IsSent, GivesData, IsAskTurn, IsCalmTurn, fault_turn, turn_of_sent}
 use Rattle.ajp_talk.proofs.AskLaws.{front-none}
 
 -- a count that stayed, and one that did not fall twice
@@ -105,7 +105,7 @@ front-answer n (Some d) put piece next front =
     subst (λ (x : Bool). IsFrontOf put (if x then body_packet (take n d.bytes) else [])) (sym next.1) there
 
 -- the packet of a piece was sent, or a front of it
-pub ask-sent : (n : ℕ) (l l' : Moment) (before after : ℕ) (w w' : Moment) (b b' : BodyAt) (piece : List ℕ) (answered : Result Unit IoError) → Gives n b b' piece
+pub ask-sent : (n : ℕ) (l l' : Moment) (before after : ℕ) (w w' : Moment) (b b' : BodyAt) (piece : List ℕ) (answered : Result Unit IoError) → GivesData n b b' piece
     → IsSent l l' before after (body_packet piece) answered
     → IsAskTurn n (record { line = l; client = w; body = b }) (record { line = l'; client = w'; body = b' }) before after (turn_of_sent answered)
 ask-sent n l l' before after w w' b b' piece (Ok done) gives sent = (piece, gives, sent.0, sent.1)

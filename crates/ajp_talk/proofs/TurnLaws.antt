@@ -14,12 +14,12 @@ use Rattle.http_front.specs.State.{taken_of}
 use Rattle.http_out.specs.Framing.{is_beyond, is_complete}
 use Rattle.http_out.specs.Writer.{Writer, framing_now}
 use Rattle.jk_io.specs.Moments.{Moment}
-use Rattle.ajp_talk.specs.Moments.{BodyAt, TalkMoment, data_at, Traffic, IsSteady, Takes, IsFrontOf}
+use Rattle.ajp_talk.specs.Moments.{BodyAt, TalkMoment, data_at, Traffic, IsSteady, TakesOfBody, IsFrontOf}
 use Rattle.ajp_talk.specs.Replies.{is_good, kind_of, chunks_of, sum_of, framing_in, exceeds, agrees, passed_of, told_of_talk}
 use Rattle.ajp_talk.specs.Owed.{want, asked, answer, behind_first, pong_of, opening, owed}
 use Rattle.ajp_talk.specs.Talk.{IsCause, OpensFor, SentFor, HasFailed, with_refused}
 use Rattle.ajp_talk.specs.Courses.{writer_for, Stands, At}
-use Rattle.ajp_talk.specs.Turns.{Came, IsHeard, IsUnheard, Sends, Gives, IsHeadFailure, IsChunkFailure, IsAskTurn, Acts, IsTurn, IsUntaken, turn_of}
+use Rattle.ajp_talk.specs.Turns.{Came, IsHeard, IsUnheard, Sends, GivesData, IsHeadFailure, IsChunkFailure, IsAskTurn, Acts, IsTurn, IsUntaken, turn_of}
 use Rattle.ajp_talk.specs.Ends.{IsPlan, stage_end, told_end, bytes_end}
 use Rattle.ajp_talk.specs.declared.plan.TalkPlan.{TalkPlan}
 use Rattle.ajp_talk.specs.declared.course.Course.{Course}
@@ -90,10 +90,10 @@ failed_with plan s m n c c' past came put rest refused cause fit first st traffi
       told_is = keeps.told ∙ tells plan s m c past came put st;
       counted = bytes-are c' put (pong_of plan ++ (came ++ rest)) sent_is received (few-sent plan s m c past came put fit st) small;
       taken = st.taken;
-      takes = subst (λ (b : BodyAt). Takes s.body b st.taken) (sym body) st.takes;
+      takes = subst (λ (b : BodyAt). TakesOfBody s.body b st.taken) (sym body) st.takes;
       left = ap data_at body ∙ st.left;
       asked_for = st.asked_for;
-      again = λ same. untaken-data s.body n.body st.taken (subst (λ (b : BodyAt). Takes s.body b st.taken) (sym body) st.takes) same;
+      again = λ same. untaken-data s.body n.body st.taken (subst (λ (b : BodyAt). TakesOfBody s.body b st.taken) (sym body) st.takes) same;
     }
 
 -- all was sent where the cause isn't the link
@@ -281,7 +281,7 @@ module _ (plan : TalkPlan) (s m n : TalkMoment) (c c' : Course) where
 
   -- the link failed while an ask was answered
   ask_broken : (a : At plan s m c) (ask count : ℕ) (l : Moment) (bytes piece more : List ℕ) → IsPlan plan → taken_of s.body.body ≡ length plan.first → s.line.faults ≤ l.faults
-      → Next plan s l c count (Ask ask) a.past a.came a.put bytes → Gives (want plan.piece ask) m.body n.body piece → Sends l n.line c.sent c'.sent more
+      → Next plan s l c count (Ask ask) a.past a.came a.put bytes → GivesData (want plan.piece ask) m.body n.body piece → Sends l n.line c.sent c'.sent more
       → IsFrontOf more (body_packet piece) → Rose l.faults n.line.faults → c' ≡ record c { received = count; sent = c'.sent } → n.client.sent ≡ m.client.sent
       → HasFailed plan s n (stage_end plan c' (taken_of n.body.body)) cause_is.Line (told_end c') (bytes_end c')
   ask_broken a ask count l bytes piece more fit first faults nx gives sends front rose is written =

@@ -10,7 +10,7 @@ use Rattle.http_front.specs.State.{taken_of, failed_of}
 use Rattle.http_out.specs.declared.framing.RequestKind.{RequestKind}
 use Rattle.http_out.specs.Writer.{Writer, new_writer, writer_after}
 use Rattle.jk_io.specs.Moments.{Moment}
-use Rattle.ajp_talk.specs.Moments.{BodyAt, TalkMoment, data_at, Traffic, IsSteady, Takes, IsFrontOf}
+use Rattle.ajp_talk.specs.Moments.{BodyAt, TalkMoment, data_at, Traffic, IsSteady, TakesOfBody, IsFrontOf}
 use Rattle.ajp_talk.specs.Replies.{head_out, kind_of, chunks_of, so_far_of_talk, told_by}
 use Rattle.ajp_talk.specs.Owed.{asked, pong_of, opening, owed}
 use Rattle.ajp_talk.specs.Talk.{Accepts, IsTalk}
@@ -36,7 +36,7 @@ pub record Stands (plan : TalkPlan) (s m : TalkMoment) (c : Course) (past : List
   pub below : c.received < plan.most
   pub few : length put ≤ 200000 + 65540 * c.received
   pub taken : List ℕ
-  pub takes : Takes s.body m.body taken
+  pub takes : TakesOfBody s.body m.body taken
   pub left : data_at m.body ≡ dropped (asked plan.piece past) (data_at s.body)
   pub asked_for : length taken ≤ asked plan.piece past
   pub little : taken_of m.body.body ≤ 65530 + 65540 * c.received
@@ -61,6 +61,6 @@ HasBegun plan s n c None = At plan s n c
 HasBegun plan s n c (Some end) = IsTalk plan s n end
 
 -- and so it is, whatever the client and the body are, of which nothing was taken but the first piece
-abbrev pub Begins : TalkPlan → Moment → Moment → Course → Option (Result TalkEnd NoMemory) → Type 0
-Begins plan l l' c answer = (w : Moment) (b : BodyAt) → taken_of b.body ≡ length plan.first → failed_of b.body ≡ None
+abbrev pub BeginsCourse : TalkPlan → Moment → Moment → Course → Option (Result TalkEnd NoMemory) → Type 0
+BeginsCourse plan l l' c answer = (w : Moment) (b : BodyAt) → taken_of b.body ≡ length plan.first → failed_of b.body ≡ None
     → HasBegun plan (record { line = l; client = w; body = b }) (record { line = l'; client = w; body = b }) c answer

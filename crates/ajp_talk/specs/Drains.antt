@@ -5,7 +5,7 @@ use Rattle.ajp_wire.specs.Packet.{HasCome}
 use Rattle.ajp_reply.specs.declared.message.Message.{Message}
 use Rattle.ajp_reply.specs.declared.message.Message.TheVariants.{Headers, Chunk, End, Ask, Pong}
 use Rattle.ajp_reply.specs.Stream.{Spelled}
-use Rattle.http_out.specs.Writer.{IsOpen, framing_now}
+use Rattle.http_out.specs.Writer.{IsOpenReply, framing_now}
 use Rattle.jk_io.specs.Moments.{Moment}
 use Rattle.ajp_talk.specs.Moments.{IsSteady}
 use Rattle.ajp_talk.specs.Replies.{chunks_of, sum_of, exceeds, agrees}
@@ -22,7 +22,7 @@ use Rattle.ajp_talk.specs.declared.turn.Unheard.TheVariants as unheard_is
 -- a head was passed, and a write failed after it
 pub record IsLostCourse (c : Course) : Type 0 where
   pub headers : c.headers ≡ true
-  pub opened : IsOpen c.writer
+  pub opened : IsOpenReply c.writer
   pub failed : c.writer.failed ≡ true
 
 abbrev pub chunk_messages : List (List ℕ) → List Message
@@ -55,7 +55,7 @@ EndsRest c chunks (Ask most) = Unit {0}
 EndsRest c chunks Pong = Unit {0}
 
 -- such a message came after chunks
-pub record IsStopped (plan : TalkPlan) (c : Course) (bytes : List ℕ) : Type 0 where
+pub record IsAfterChunks (plan : TalkPlan) (c : Course) (bytes : List ℕ) : Type 0 where
   pub chunks : List (List ℕ)
   pub message : Message
   pub spelled : Spelled plan.packet (message ∷ chunk_messages chunks) bytes
@@ -81,7 +81,7 @@ pub record Drains (plan : TalkPlan) (l l' : Moment) (w w' : Moment) (c c' : Cour
   pub same : c'.sent ≡ c.sent
   pub kept : keep ≡ true → IsTail plan c bytes × (c'.received < plan.most) × IsSteady l l'
   pub closed : keep ≡ false → c'.received < plan.most → IsNoTail plan c bytes
-  pub halted : keep ≡ false → IsStopped plan c bytes ⊎ IsCutShort plan l l' c' bytes want
+  pub halted : keep ≡ false → IsAfterChunks plan c bytes ⊎ IsCutShort plan l l' c' bytes want
 
 abbrev pub IsDrained : TalkPlan → Moment → Moment → Moment → Moment → Course → Course → Result Bool NoMemory → Type 0
 IsDrained plan l l' w w' c c' (Ok keep) = Drains plan l l' w w' c c' keep false
@@ -131,7 +131,7 @@ pub record HasDropped (plan : TalkPlan) (l l' : Moment) (w w' : Moment) (c c' : 
   pub acts : IsDroppedMessage plan message (record c { received = count }) c' w w' answer
 
 -- no message came
-pub record HasNone (plan : TalkPlan) (l l' : Moment) (w w' : Moment) (c c' : Course) (answer : Result (Option Bool) NoMemory) : Type 0 where
+pub record HasNoMessage (plan : TalkPlan) (l l' : Moment) (w w' : Moment) (c c' : Course) (answer : Result (Option Bool) NoMemory) : Type 0 where
   pub why : Unheard
   pub count : ℕ
   pub want : NoMemory
@@ -141,7 +141,7 @@ pub record HasNone (plan : TalkPlan) (l l' : Moment) (w w' : Moment) (c c' : Cou
   pub client : w' ≡ w
 
 abbrev pub IsDrop : TalkPlan → Moment → Moment → Moment → Moment → Course → Course → Result (Option Bool) NoMemory → Type 0
-IsDrop plan l l' w w' c c' answer = HasDropped plan l l' w w' c c' answer ⊎ HasNone plan l l' w w' c c' answer
+IsDrop plan l l' w w' c c' answer = HasDropped plan l l' w w' c c' answer ⊎ HasNoMessage plan l l' w w' c c' answer
 
 -- ---- the end of a talk whose client is gone
 

@@ -42,7 +42,7 @@ abbrev pub IsSteady : Moment → Moment → Type 0
 IsSteady s n = n.faults ≡ s.faults
 
 -- this data was taken of the body, and no call of it was refused
-pub record Takes (s n : BodyAt) (taken : List ℕ) : Type 0 where
+pub record TakesOfBody (s n : BodyAt) (taken : List ℕ) : Type 0 where
   pub uses : Uses s.unread n.unread (place_of s.body) (place_of n.body) taken
   pub counted : taken_of n.body ≡ taken_of s.body + length taken
   pub going : failed_of n.body ≡ None

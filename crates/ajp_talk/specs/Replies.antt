@@ -72,8 +72,8 @@ agrees By.Closing sum = true
 agrees By.Chunks sum = true
 
 -- no more than the announced length came so far
-abbrev pub IsWithin : TalkPlan → List Message → Type 0
-IsWithin plan past = IfSome (head_of past) (λ parts. exceeds (framing_in plan parts) (sum_of (chunks_of past)) ≡ false)
+abbrev pub IsWithinLength : TalkPlan → List Message → Type 0
+IsWithinLength plan past = IfSome (head_of past) (λ parts. exceeds (framing_in plan parts) (sum_of (chunks_of past)) ≡ false)
 
 -- the announced length came
 abbrev pub Agrees : TalkPlan → List Message → Type 0

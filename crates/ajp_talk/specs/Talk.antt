@@ -10,8 +10,8 @@ use Rattle.ajp_reply.specs.Stream.{Spelled, IsPacketOf, IsFront, IsForm, NoReply
 use Rattle.http_front.specs.Body.{dropped, reaches}
 use Rattle.http_front.specs.Places.{is_limited}
 use Rattle.http_front.specs.State.{place_of, taken_of, most_of}
-use Rattle.ajp_talk.specs.Moments.{BodyAt, TalkMoment, data_at, Traffic, IsSteady, Takes, IsUsed, IsFrontOf, AreAlong}
-use Rattle.ajp_talk.specs.Replies.{is_good, is_listed, kind_of, chunks_of, sum_of, framing_in, exceeds, agrees, IsWithin, IsUnlisted, IsReply, so_far_of_talk, reply_of_talk, bytes_for, told_by, passed_of, told_of_talk}
+use Rattle.ajp_talk.specs.Moments.{BodyAt, TalkMoment, data_at, Traffic, IsSteady, TakesOfBody, IsUsed, IsFrontOf, AreAlong}
+use Rattle.ajp_talk.specs.Replies.{is_good, is_listed, kind_of, chunks_of, sum_of, framing_in, exceeds, agrees, IsWithinLength, IsUnlisted, IsReply, so_far_of_talk, reply_of_talk, bytes_for, told_by, passed_of, told_of_talk}
 use Rattle.ajp_talk.specs.Owed.{asked, ping_of, pong_of, opening, owed}
 use Rattle.ajp_talk.specs.declared.plan.TalkPlan.{TalkPlan}
 use Rattle.ajp_reply.specs.declared.stage.Stage.{Stage}
@@ -27,7 +27,7 @@ pub record Accepts (plan : TalkPlan) (past : List Message) (came : List ℕ) : T
   pub spelled : Spelled plan.packet past came
   pub front : IsFront is_good past
   pub unlisted : IsUnlisted plan past
-  pub within : IsWithin plan past
+  pub within : IsWithinLength plan past
 
 -- ---- a failed talk
 
@@ -120,7 +120,7 @@ pub record HasFailed (plan : TalkPlan) (s n : TalkMoment) (stage : Stage) (cause
   pub told_is : told ≡ told_of_talk plan past
   pub counted : bytes ≡ length put + length (pong_of plan ++ (came ++ rest))
   pub taken : List ℕ
-  pub takes : Takes s.body n.body taken
+  pub takes : TakesOfBody s.body n.body taken
   pub left : data_at n.body ≡ dropped (asked plan.piece past) (data_at s.body)
   pub asked_for : length taken ≤ asked plan.piece past
   pub again : taken_of n.body.body ≡ taken_of s.body.body → data_at n.body ≡ data_at s.body
@@ -182,7 +182,7 @@ pub record IsDone (plan : TalkPlan) (s n : TalkMoment) (told : Told) (reuse : Bo
   pub told_is : IfSome (head_of past) (λ parts. told ≡ told_by (kind_of plan) parts (chunks_of past))
   pub counted : bytes ≡ length put + length (pong_of plan ++ came)
   pub taken : List ℕ
-  pub takes : Takes s.body n.body taken
+  pub takes : TakesOfBody s.body n.body taken
   pub left : data_at n.body ≡ dropped (asked plan.piece past) (data_at s.body)
 
 -- the accepted messages begin a reply, or are one
@@ -284,8 +284,8 @@ pub record IsGone (plan : TalkPlan) (s n : TalkMoment) (truncated keep : Bool) (
 
 -- Why a body is bad, where n bytes of it are wanted: a bad chunk line stands in its data, or it is chunked and the data
 -- that are wanted reach the limit.
-abbrev pub IsBad : BodyAt → ℕ → ℕ → Type 0
-IsBad b n status =
+abbrev pub IsBadBody : BodyAt → ℕ → ℕ → Type 0
+IsBadBody b n status =
     ((status ≡ 400) × IfSome (data_at b) (λ d. (reaches n d ≡ false) × (d.bad ≡ true)))
     ⊎ ((status ≡ 413) × (is_limited (place_of b.body) ≡ true)
     × IfSome (data_at b) (λ d. most_of b.body ≤ taken_of b.body + length (take n d.bytes)))
@@ -303,7 +303,7 @@ pub record HasBadBody (plan : TalkPlan) (s n : TalkMoment) (status : ℕ) (told 
   pub sent : IfSome (data_at s.body) (λ d. put ≡ owed plan d past)
   pub steady : IsSteady s.line n.line
   pub written : n.client.sent ≡ appended s.client.sent (so_far_of_talk plan past)
-  pub why : IsBad s.body (asked plan.piece (Ask ask ∷ past)) status
+  pub why : IsBadBody s.body (asked plan.piece (Ask ask ∷ past)) status
   pub told_is : told ≡ told_of_talk plan past
   pub passed_is : passed ≡ passed_of plan past
   pub counted : bytes ≡ length put + length (pong_of plan ++ came)

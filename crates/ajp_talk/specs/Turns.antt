@@ -15,13 +15,13 @@ use Rattle.http_front.specs.Walks.{counted}
 use Rattle.http_front.specs.declared.fault.BodyFault.{BodyFault}
 use Rattle.http_front.specs.declared.fault.BodyFault.TheVariants as fault
 use Rattle.http_out.specs.Framing.{has_no_body, is_beyond, is_complete}
-use Rattle.http_out.specs.Writer.{Writer, IsOpen, framing_now, after_head, after_chunk, after_end, chunk_bytes, end_bytes}
+use Rattle.http_out.specs.Writer.{Writer, IsOpenReply, framing_now, after_head, after_chunk, after_end, chunk_bytes, end_bytes}
 use Rattle.http_out.specs.Writer.{counted as counted_chunk}
 use Rattle.jk_io.specs.Moments.{Moment}
 use Rattle.ajp_talk.specs.Moments.{BodyAt, TalkMoment, data_at, Traffic, IsSteady, IsUsed, IsFrontOf}
 use Rattle.ajp_talk.specs.Owed.{want, answer, ping_of, pong_of}
 use Rattle.ajp_talk.specs.Replies.{is_good, is_listed, kind_of, head_out}
-use Rattle.ajp_talk.specs.Talk.{IsNext, BeginsNoPong, IsBad}
+use Rattle.ajp_talk.specs.Talk.{IsNext, BeginsNoPong, IsBadBody}
 use Rattle.ajp_talk.specs.declared.plan.TalkPlan.{TalkPlan}
 use Rattle.ajp_talk.specs.declared.course.Course.{Course}
 use Rattle.ajp_talk.specs.declared.ending.Told.{Told}
@@ -49,8 +49,8 @@ fault_turn fault.NoMemory = turn_is.NoMemory
 -- ---- one message from the link
 
 -- less than a packet, or a whole one whose payload begins as a head does
-abbrev pub IsUnread : ℕ → List ℕ → Type 0
-IsUnread packet bytes = IsPart true packet bytes ⊎ ((payload : List ℕ) × IsPacket true packet payload bytes × BeginsHead payload)
+abbrev pub IsUnreadPacket : ℕ → List ℕ → Type 0
+IsUnreadPacket packet bytes = IsPart true packet bytes ⊎ ((payload : List ℕ) × IsPacket true packet payload bytes × BeginsHead payload)
 
 -- what came, by why it is no message
 abbrev pub CameUnheard : ℕ → ℕ → ℕ → Moment → Moment → List ℕ → Unheard → Type 0
@@ -58,7 +58,7 @@ CameUnheard packet most count l l' bytes unheard_is.Line = (count < most) × IsP
 CameUnheard packet most count l l' bytes unheard_is.Ended = (count < most) × IsPart true packet bytes × IsEmpty l'.incoming
 CameUnheard packet most count l l' bytes unheard_is.Wrong = (count < most) × BeginsNoMessage packet bytes
 CameUnheard packet most count l l' bytes unheard_is.TooLong = (most ≤ count) × IsNext packet bytes
-CameUnheard packet most count l l' bytes unheard_is.NoMemory = (count < most) × IsUnread packet bytes × IsSteady l l'
+CameUnheard packet most count l l' bytes unheard_is.NoMemory = (count < most) × IsUnreadPacket packet bytes × IsSteady l l'
 
 -- bytes came, nothing was sent, and the count is that of the bytes
 pub record Came (l l' : Moment) (count count' : ℕ) (bytes : List ℕ) : Type 0 where
@@ -128,7 +128,7 @@ pub record HasNoAnswer (plan : TalkPlan) (l l' : Moment) (sent received : ℕ) (
   pub as_said : IsUnanswered plan l l' received rest put why
 
 -- CPing was answered, or none was wanted
-pub record IsAnswered (plan : TalkPlan) (l l' : Moment) (sent received : ℕ) : Type 0 where
+pub record IsPingAnswered (plan : TalkPlan) (l l' : Moment) (sent received : ℕ) : Type 0 where
   pub traffic : Traffic l l' (pong_of plan) (ping_of plan)
   pub sent_is : sent ≡ length (ping_of plan)
   pub received_is : received ≡ length (pong_of plan)
@@ -136,14 +136,14 @@ pub record IsAnswered (plan : TalkPlan) (l l' : Moment) (sent received : ℕ) : 
   pub below : received < plan.most
 
 abbrev pub IsGreeting : TalkPlan → Moment → Moment → ℕ → ℕ → Result Unit Unheard → Type 0
-IsGreeting plan l l' sent received (Ok _) = IsAnswered plan l l' sent received
+IsGreeting plan l l' sent received (Ok _) = IsPingAnswered plan l l' sent received
 IsGreeting plan l l' sent received (Err why) = HasNoAnswer plan l l' sent received why
 
 -- ---- Send Headers
 
 -- the writer is as the course says: open after a head, and else without one
 pub record IsOnCourse (c : Course) : Type 0 where
-  pub opened : c.headers ≡ true → IsOpen c.writer
+  pub opened : c.headers ≡ true → IsOpenReply c.writer
   pub fresh : c.headers ≡ false → c.writer.framing ≡ None
 
 abbrev pub with_seen : Course → Course
@@ -240,7 +240,7 @@ IsEndTurn reuse c c' w w' turn_is.NoMemory =
 -- ---- Get Body Chunk
 
 -- the next data of a body, for an ask of n
-pub record Gives (n : ℕ) (b b' : BodyAt) (piece : List ℕ) : Type 0 where
+pub record GivesData (n : ℕ) (b b' : BodyAt) (piece : List ℕ) : Type 0 where
   pub within : length piece ≤ n
   pub data' : IfSome (data_at b) (λ d. (piece ≡ take n d.bytes) × IsTrue (reaches n d))
   pub left : data_at b' ≡ dropped n (data_at b)
@@ -257,10 +257,10 @@ turn_of_sent (Err Io.NoMemory) = turn_is.NoMemory
 
 -- the answer to an ask of n bytes
 abbrev pub IsAskTurn : ℕ → TalkMoment → TalkMoment → ℕ → ℕ → Turn → Type 0
-IsAskTurn n s s' sent sent' turn_is.On = (piece : List ℕ) × Gives n s.body s'.body piece × Sends s.line s'.line sent sent' (body_packet piece) × IsSteady s.line s'.line
+IsAskTurn n s s' sent sent' turn_is.On = (piece : List ℕ) × GivesData n s.body s'.body piece × Sends s.line s'.line sent sent' (body_packet piece) × IsSteady s.line s'.line
 IsAskTurn n s s' sent sent' (turn_is.Done reuse) = ⊥
 IsAskTurn n s s' sent sent' (turn_is.Failed cause_is.Line) =
-    (piece : List ℕ) × (put : List ℕ) × Gives n s.body s'.body piece × Sends s.line s'.line sent sent' put × IsFrontOf put (body_packet piece) × Rose s.line.faults s'.line.faults
+    (piece : List ℕ) × (put : List ℕ) × GivesData n s.body s'.body piece × Sends s.line s'.line sent sent' put × IsFrontOf put (body_packet piece) × Rose s.line.faults s'.line.faults
 IsAskTurn n s s' sent sent' (turn_is.Failed cause_is.NoLink) = ⊥
 IsAskTurn n s s' sent sent' (turn_is.Failed cause_is.Ended) = ⊥
 IsAskTurn n s s' sent sent' (turn_is.Failed cause_is.BadReply) = ⊥
@@ -272,7 +272,7 @@ IsAskTurn n s s' sent sent' (turn_is.LostAtEnd reuse) = ⊥
 IsAskTurn n s s' sent sent' turn_is.Unread = Sends s.line s'.line sent sent' [] × IsUsed s.body s'.body × Rose s.client.faults s'.client.faults
 IsAskTurn n s s' sent sent' turn_is.Cut =
     Sends s.line s'.line sent sent' [] × IsSteady s.line s'.line × IsUsed s.body s'.body × IfSome (data_at s.body) (λ d. (reaches n d ≡ false) × (d.bad ≡ false))
-IsAskTurn n s s' sent sent' (turn_is.Bad status) = Sends s.line s'.line sent sent' [] × IsSteady s.line s'.line × IsUsed s.body s'.body × IsBad s.body n status
+IsAskTurn n s s' sent sent' (turn_is.Bad status) = Sends s.line s'.line sent sent' [] × IsSteady s.line s'.line × IsUsed s.body s'.body × IsBadBody s.body n status
 IsAskTurn n s s' sent sent' turn_is.NoMemory =
     (put : List ℕ) × Sends s.line s'.line sent sent' put × IsSteady s.line s'.line × IsUsed s.body s'.body
     × IfSome (data_at s.body) (λ d. IsFrontOf put (answer n d))

@@ -4,7 +4,7 @@ ghost use Rattle.std.specs.Prelude.{◌≡◌, ◌≤◌, ◌<◌, None, length}
 ghost use Rattle.http_front.specs.State.{failed_of, taken_of};
 ghost use Rattle.ajp_wire.specs.Moments.{link_at};
 ghost use Rattle.ajp_talk.specs.Complete.{Completes};
-ghost use Rattle.ajp_talk.specs.Courses.{Begins, fresh};
+ghost use Rattle.ajp_talk.specs.Courses.{BeginsCourse, fresh};
 ghost use Rattle.ajp_talk.specs.Drains.{IsLostCourse, IsLostEnd};
 ghost use Rattle.ajp_talk.specs.Ends.{IsPlan};
 ghost use Rattle.ajp_talk.specs.Moments.{talk_at};
@@ -75,7 +75,7 @@ fn begin<L: Link>(
 ) -> Option<Result<TalkEnd, NoMemory>>
     requires plan { IsPlan plan.now }
     requires begun { course.old ≡ fresh plan.now 0 0 }
-    ensures begins { Begins plan.now (link_at L.Meanings line.old) (link_at L.Meanings line.new) course.new result }
+    ensures begins { BeginsCourse plan.now (link_at L.Meanings line.old) (link_at L.Meanings line.new) course.new result }
     ensures beside { L.beside line.new ≡ L.beside line.old }
     ensures no_fewer { L.faults line.old ≤ L.faults line.new }
 {

@@ -23,9 +23,9 @@ abbrev pub Halts : {Y : Type 0} → NotRead → Result Y Refusal → Type 0
 Halts why.NoMemory read = Unit {0}
 Halts (why.Refused r) read = read ≡ Err r
 
-abbrev pub Gives : {X Y : Type 0} → (X → Y) → Result X NotRead → Result Y Refusal → Type 0
-Gives view (Ok x) read = read ≡ Ok (view x)
-Gives view (Err s) read = Halts s read
+abbrev pub GivesReading : {X Y : Type 0} → (X → Y) → Result X NotRead → Result Y Refusal → Type 0
+GivesReading view (Ok x) read = read ≡ Ok (view x)
+GivesReading view (Err s) read = Halts s read
 
 -- the refusal of what begins with these bytes
 abbrev pub refused : {A : Type 0} → RefusalKind → List ℕ → Result A Refusal
@@ -46,10 +46,10 @@ told len why.NoMemory = errors.NoMemory
 told len (why.Refused r) = error_at r.kind (len - r.left)
 
 -- A decoder's answer for a payload of this length is that of reading, unless memory was wanted.
-abbrev pub Tells : {X : Type 0} → ℕ → Result X DecodeError → Result X Refusal → Type 0
-Tells len (Ok x) read = read ≡ Ok x
-Tells len (Err errors.NoMemory) read = Unit {0}
-Tells len (Err e) read = (r : Refusal) × (read ≡ Err r) × (e ≡ error_at r.kind (len - r.left))
+abbrev pub TellsReading : {X : Type 0} → ℕ → Result X DecodeError → Result X Refusal → Type 0
+TellsReading len (Ok x) read = read ≡ Ok x
+TellsReading len (Err errors.NoMemory) read = Unit {0}
+TellsReading len (Err e) read = (r : Refusal) × (read ≡ Err r) × (e ≡ error_at r.kind (len - r.left))
 
 abbrev pub byte_at : List ℕ → Reading ℕ
 byte_at [] = refused Short []

@@ -1,7 +1,7 @@
 //! The headers of a message: coded or written names, and values.
 ghost use Rattle.std.specs.Prelude.{◌≡◌, ◌+◌, ◌*◌, ◌<◌, ◌≤◌, List, ℕ, length, map, Option, option_map, IfOk};
 ghost use Rattle.std.specs.Option.{option_copied};
-ghost use Rattle.ajp_wire.specs.Reading.{Gives, named_from, name_at, header_at, header_list_at, headers_at};
+ghost use Rattle.ajp_wire.specs.Reading.{GivesReading, named_from, name_at, header_at, header_list_at, headers_at};
 ghost use Rattle.ajp_wire.specs.declared.names.TheConstants.{CODES_LIMIT};
 
 use crate::fields::{next_int, next_marked, next_text};
@@ -38,7 +38,7 @@ fn next_name<'a>(
     rest: &'a [u8],
 ) -> Result<(Bytes, &'a [u8]), NotRead>
     requires { length table.now < CODES_LIMIT }
-    ensures { Gives (λ x. (x.0, x.1.now)) result
+    ensures { GivesReading (λ x. (x.0, x.1.now)) result
         (name_at (map (λ name. name.now) table.now) absent_names rest.now) }
 {
     let (first, after) = next_int(rest)?;
@@ -66,7 +66,7 @@ fn next_header<'a>(
     rest: &'a [u8],
 ) -> Result<((Bytes, Bytes), &'a [u8]), NotRead>
     requires { length table.now < CODES_LIMIT }
-    ensures { Gives (λ x. (x.0, x.1.now)) result
+    ensures { GivesReading (λ x. (x.0, x.1.now)) result
         (header_at (map (λ name. name.now) table.now) absent_names rest.now) }
 {
     let (name, rest) = next_name(alloc, table, absent_names, rest)?;
@@ -82,7 +82,7 @@ fn next_header_list<'a>(
     bytes: &'a [u8],
 ) -> Result<(HeadPairs, &'a [u8]), NotRead>
     requires { length table.now < CODES_LIMIT }
-    ensures { Gives (λ x. (x.0, x.1.now)) result
+    ensures { GivesReading (λ x. (x.0, x.1.now)) result
         (header_list_at (map (λ name. name.now) table.now) absent_names count bytes.now) }
 {
     let mut headers = Vec::with_capacity(alloc, count as usize)?;
@@ -105,7 +105,7 @@ pub fn next_headers<'a>(
     rest: &'a [u8],
 ) -> Result<(HeadPairs, &'a [u8]), NotRead>
     requires { length table.now < CODES_LIMIT }
-    ensures { Gives (λ x. (x.0, x.1.now)) result
+    ensures { GivesReading (λ x. (x.0, x.1.now)) result
         (headers_at (map (λ name. name.now) table.now) absent_names rest.now) }
 {
     let (count, after) = next_int(rest)?;

@@ -3,7 +3,7 @@
 //! bench/bodies.c does the same in plain C.
 ghost use Rattle.std.specs.Prelude.{◌<◌, IfOk, length};
 ghost use Rattle.http_front.specs.declared.head_lines.TheConstants.{MAX_HEAD_LINES};
-ghost use Rattle.http_out.specs.Writer.{IsOpen};
+ghost use Rattle.http_out.specs.Writer.{IsOpenReply};
 
 use crate::done::Done;
 use crate::feed::Feed;
@@ -139,7 +139,7 @@ const KIND: RequestKind = RequestKind {
 
 /// A writer that has taken a head.
 fn opened(alloc: Global, is_by_length: bool) -> Result<ReplyWriter, OutError>
-    ensures { IfOk result (λ writer. IsOpen writer) }
+    ensures { IfOk result (λ writer. IsOpenReply writer) }
 {
     let mut writer = ReplyWriter::new(alloc, KIND);
     writer.headers(head(alloc, is_by_length)?)?;
@@ -148,7 +148,7 @@ fn opened(alloc: Global, is_by_length: bool) -> Result<ReplyWriter, OutError>
 
 /// Passes a body on in chunks, and ends it.
 fn pass(writer: &mut ReplyWriter, client: &mut Feed) -> Result<(), OutError>
-    requires { IsOpen writer.old }
+    requires { IsOpenReply writer.old }
 {
     for chunk in DATA.chunks(CHUNK_BYTES) {
         writer.chunk(chunk, client)?;

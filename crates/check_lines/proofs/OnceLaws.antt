@@ -14,7 +14,7 @@ use Rattle.lb_model.specs.declared.view.View.{View}
 use Rattle.lb_book.specs.Desks.{Chooses, Commands, DeskState, Gains, IsOwn, KeepsDesk, LeaseNote, MeetsStray, RefusesChoice, RisesByOne, Shows, first_stray, TakesBack}
 use Rattle.lb_book.specs.declared.desk.Choice.TheVariants as choice
 use Rattle.lb_book.specs.declared.receipt.Receipt.{Receipt}
-use Rattle.check_lines.specs.Once.{Ends, GainsAsMany, Returns}
+use Rattle.check_lines.specs.Once.{EndsCall, GainsAsMany, Returns}
 use Rattle.check_lines.specs.declared.callers.Once.TheVariants as once
 
 pub gains_as_many : (old new : DeskState) (lb session at : ℕ) (gained : List Receipt) → Gains old new lb session at gained → GainsAsMany old new
@@ -76,7 +76,7 @@ ends_stray note old mid new lb session at ask outcome m lease stray chose met =
     (subst (λ (n : ℕ). RisesByOne n new.strays) chose.stray met.rose, met.met ∙ ap (λ (before : Option Stray). first_stray before stray) chose.met)
 
 pub ends_refused : {M : Type 0} (numbers : M → FullMark) (old new : DeskState) (lb session at : ℕ) (ask : Ask) (outcome : Outcome) (error : RoomError M)
-    → RefusesChoice numbers old new lb session at error → Ends old new lb ask outcome (once.Refused error)
+    → RefusesChoice numbers old new lb session at error → EndsCall old new lb ask outcome (once.Refused error)
 ends_refused numbers old new lb session at ask outcome error refused = (refused.stray, refused.met, refused.wanted)
 
 pub page_after : (old mid new : DeskState) (lb session at : ℕ) (command : Command) (view : View) → new ≡ mid

@@ -38,14 +38,14 @@ pub record IsUnchosen (old new : DeskState) (ask : Ask) : Type 0 where
   pub asked : last.entry.call ≡ call.Select ask
   pub unchosen : (last.entry.answer ≡ answer.NoMember) ⊎ (last.entry.answer ≡ answer.Forced)
 
-abbrev pub Ends : {M : Type 0} → (old new : DeskState) → (lb : ℕ) → Ask → Outcome → Once M → Type 0
-Ends old new lb ask outcome (once.Returned m) =
+abbrev pub EndsCall : {M : Type 0} → (old new : DeskState) → (lb : ℕ) → Ask → Outcome → Once M → Type 0
+EndsCall old new lb ask outcome (once.Returned m) =
     Returns old new lb ask outcome m × (m < slice_index old.sizes lb) × (is_in ask.tried m ≡ false)
-Ends old new lb ask outcome once.Unchosen =
+EndsCall old new lb ask outcome once.Unchosen =
     IsUnchosen old new ask × (new.strays ≡ old.strays) × (new.met ≡ old.met) × (new.fulls ≡ old.fulls)
-Ends old new lb ask outcome (once.Refused error) =
+EndsCall old new lb ask outcome (once.Refused error) =
     (new.strays ≡ old.strays) × (new.met ≡ old.met) × (error ≡ room.NoMemory → new.fulls ≡ old.fulls)
-Ends old new lb ask outcome (once.Stray stray) = RisesByOne old.strays new.strays × (new.met ≡ first_stray old.met stray)
+EndsCall old new lb ask outcome (once.Stray stray) = RisesByOne old.strays new.strays × (new.met ≡ first_stray old.met stray)
 
 -- A fact of the refusal, where the exchange was refused.
 abbrev pub WhereRefused : {M : Type 0} → Once M → (RoomError M → Type 0) → Type 0

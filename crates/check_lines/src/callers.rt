@@ -1,7 +1,7 @@
 //! Small callers of a desk, proved from its trait alone.
 ghost use Rattle.std.specs.Prelude.{◌≡◌, ◌+◌, ◌<◌, ◌≤◌, ◌⊎◌, true, length, IfSome, IfOk, IfErr, OnOk, OnErr};
 ghost use Rattle.lb_book.specs.Desks.{Commands, DeskState, KeepsDesk, RefusesChoice, RefusesCommand, Shows};
-ghost use Rattle.check_lines.specs.Once.{Ends, GainsAsMany, IsUpToDate, LeavesNoneDue, WhereRefused};
+ghost use Rattle.check_lines.specs.Once.{EndsCall, GainsAsMany, IsUpToDate, LeavesNoneDue, WhereRefused};
 ghost use Rattle.lb_model.specs.declared.journal.TheConstants.{MOST_BYTES};
 
 use lb_book::Desk;
@@ -31,7 +31,7 @@ pub fn one_exchange<D: Desk>(
     requires caller { IfSome (D.state desk.old).caller (λ n. session ≡ n) }
     requires bytes { outcome.bytes ≤ MOST_BYTES }
     ensures held { (D.state desk.new).held ≡ (D.state desk.old).held }
-    ensures ends { Ends (D.state desk.old) (D.state desk.new) lb ask.now outcome result }
+    ensures ends { EndsCall (D.state desk.old) (D.state desk.new) lb ask.now outcome result }
     ensures refused { WhereRefused result (RefusesChoice D.numbers (D.state desk.old) (D.state desk.new) lb session at) }
     ensures due { LeavesNoneDue (D.state desk.new) lb at result }
     ensures added { GainsAsMany (D.state desk.old) (D.state desk.new) }

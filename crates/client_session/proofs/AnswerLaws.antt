@@ -21,7 +21,7 @@ use Rattle.client_session.specs.Ends.{MeetsBy, RisesBy}
 use Rattle.client_session.specs.Requests.{IsNewBody, Visit, continue_for, mounted_at, own_kind_at}
 use Rattle.client_session.specs.Rows.{worker_row}
 use Rattle.client_session.specs.Standings.{Puts, ClientStanding}
-use Rattle.client_session.specs.Turns.{GoesOn, MeetsInAnswer, RisesInAnswer}
+use Rattle.client_session.specs.Turns.{LeavesBodySound, MeetsInAnswer, RisesInAnswer}
 use Rattle.client_session.specs.Writing.{BreaksOff, WritesOwn}
 use Rattle.client_session.specs.declared.ending.SessionStop.{SessionStop}
 use Rattle.client_session.specs.declared.ending.SessionStop.TheVariants as stop
@@ -267,6 +267,6 @@ told_on v head last s n w body body' a rows worker mounted puts at =
     inr (record s { client = w }, record { mounted = subst (λ (o : Option Named). IsSome o) (sym mounted) refl; written = record { puts = puts; alone = refl } }, at)
 
 -- no call on a new body had failed
-pub goes_on_new : (a : Answered) (plan : BodyPlan) (body : BodyIn) → IsNewBody plan body → GoesOn a body
+pub goes_on_new : (a : Answered) (plan : BodyPlan) (body : BodyIn) → IsNewBody plan body → LeavesBodySound a body
 goes_on_new answered.Whole plan body fresh = fresh.going
 goes_on_new (answered.Not stop') plan body fresh = tt

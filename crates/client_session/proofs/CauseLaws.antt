@@ -30,7 +30,7 @@ use Rattle.exchange.specs.Talks.{HasRun, HaveTalked}
 use Rattle.exchange.specs.declared.ending.ExchangeEnd.TheVariants as exchange_end
 use Rattle.exchange.specs.declared.ending.Ran.{Ran}
 use Rattle.exchange.specs.declared.ending.Ran.TheVariants as ran_is
-use Rattle.status_worker.specs.Commands.{DoesAll, IsRefused, StopsAt, refusal_by}
+use Rattle.status_worker.specs.Commands.{DoesAll, IsRefusedQuery, StopsAt, refusal_by}
 use Rattle.status_worker.specs.Desks.{DeskSide}
 use Rattle.status_worker.specs.declared.asking.Work.{Work}
 use Rattle.status_worker.specs.declared.refusal.PageRefusal.{PageRefusal}
@@ -208,7 +208,7 @@ page_full v s n r same =
     ]
     ))
   where
-    never_refused : (cfg : Config) (status : Status) (query : Option (List ℕ)) → IsRefused cfg status query PageRefusal.Full → ⊥
+    never_refused : (cfg : Config) (status : Status) (query : Option (List ℕ)) → IsRefusedQuery cfg status query PageRefusal.Full → ⊥
     never_refused cfg status query (inl closed') = closed_full (sym closed'.0)
     never_refused cfg status query (inr (open', inl bad)) = query_full (sym bad.0)
     never_refused cfg status query (inr (open', inr (inl forbidden))) = read_only_full (sym forbidden.1)

@@ -17,7 +17,7 @@ use Rattle.http_front.specs.declared.fault.BodyFault.TheVariants as fault
 use Rattle.http_front.specs.declared.place.Place.{Place}
 use Rattle.http_front.proofs.BodyLemmas.{data_from-append}
 use Rattle.ajp_reply.specs.declared.message.Message.{Message}
-use Rattle.ajp_talk.specs.Moments.{Takes}
+use Rattle.ajp_talk.specs.Moments.{TakesOfBody}
 use Rattle.ajp_talk.specs.Replies.{bytes_for}
 use Rattle.site_config.specs.declared.balancer.Lb.{Lb}
 use Rattle.site_config.specs.declared.config.Named.TheVariants as named
@@ -29,7 +29,7 @@ use Rattle.client_session.specs.Answers.{IsAnswer, IsForwarded, IsForwardedAt, I
 use Rattle.client_session.specs.Complete.{EndsWhole, GetsWhole, IsUndisturbed, ServesWhole, with_bytes}
 use Rattle.client_session.specs.Ends.{end_of}
 use Rattle.client_session.specs.Requests.{IsNewBody, Visit, continue_for, is_last, mounted_at}
-use Rattle.client_session.specs.Sessions.{BreaksRest, EndsIn, IsRequest, IsServed, IsUnread, ReadsHead}
+use Rattle.client_session.specs.Sessions.{BreaksRest, EndsIn, IsRequest, IsServedWhole, LeavesBodyUnread, ReadsHead}
 use Rattle.client_session.specs.Standings.{ClientStanding, unread_at, with_body}
 use Rattle.client_session.specs.declared.ending.SessionStop.{SessionStop}
 use Rattle.client_session.specs.declared.ending.SessionStop.TheVariants as stop
@@ -180,7 +180,7 @@ gets_whole v number s n e head t all u body rows r after = by_answer r.answers
     by_answer (inr (told, on, inr (status, m, page, at, has, written, same, added))) =
         absurd (let there : mounted_at v head ≡ Some (named.Status at.place) = at.mounted in let here : mounted_at v head ≡ Some (named.Balancer u.lb) = u.mounted in cc)
 
-pub serves_whole : (v : Visit) (number : ℕ) (s n : ClientStanding) (rows : List Served) → IsServed v number s n rows → ServesWhole v number s n
+pub serves_whole : (v : Visit) (number : ℕ) (s n : ClientStanding) (rows : List Served) → IsServedWhole v number s n rows → ServesWhole v number s n
 serves_whole v number s n rows served head t all u =
     gets_whole v number s served.mid n head t all u served.body rows
     (asked v number s served.mid head u.used u.rest served.body answered.Whole rows u.told u.is_head served.going_on.request)
@@ -262,7 +262,7 @@ record HasRest (body : BodyIn) (left : Option (List ℕ)) : Type 0 where
   pub below : taken_of body + length (data_from more (place_of body)).bytes < most_of body
 
 rest_of : (fresh body : BodyIn) (rest : List ℕ) (before left : Option (List ℕ)) (taken : List ℕ) → before ≡ Some rest
-    → Takes (record { body = fresh; unread = before }) (record { body = body; unread = left }) taken
+    → TakesOfBody (record { body = fresh; unread = before }) (record { body = body; unread = left }) taken
     → (data_from rest (place_of fresh)).whole ≡ true → taken_of fresh + length (data_from rest (place_of fresh)).bytes < most_of fresh → HasRest body left
 rest_of fresh body rest before left taken told takes whole below =
     let there = front_of_told takes.uses.gone left rest (sym takes.uses.used ∙ told) in
@@ -334,7 +334,7 @@ no_unread s mid n body fault.Fault is steady breaks =
 no_unread s mid n body fault.NoMemory is steady breaks = refl
 
 unread_whole : (v : Visit) (number : ℕ) (s n : ClientStanding) (rows : List Served) (why' : BodyFault) (head : Head) (t : Talk) (all : List Message) (u : IsUndisturbed v number s n head t all)
-    → IsUnread v number s n rows why' → why' ≡ fault.NoMemory
+    → LeavesBodyUnread v number s n rows why' → why' ≡ fault.NoMemory
 unread_whole v number s n rows why' head t all u (body, mid, going_on, breaks) =
     let r = asked v number s mid head u.used u.rest body answered.Whole rows u.told u.is_head going_on.request in
     no_unread s mid n body why' (readable v number s mid n head t all u body rows r) u.whole.client breaks

@@ -14,10 +14,10 @@ use Rattle.exchange.specs.Requests.{is_head}
 use Rattle.exchange.specs.declared.ending.ExchangeEnd.{ExchangeEnd}
 use Rattle.exchange.specs.declared.ending.ExchangeEnd.TheVariants as exchange_end
 use Rattle.client_session.specs.Answers.{IsAnswerAt, IsForwardedAt, errand_at}
-use Rattle.client_session.specs.Concluding.{HasNamesWithin, IsConclusion, IsWithin, rows_of}
+use Rattle.client_session.specs.Concluding.{HasNamesWithin, IsConclusion, NamesWithin, rows_of}
 use Rattle.client_session.specs.Requests.{Visit, mounted_at}
 use Rattle.client_session.specs.Standings.{ClientStanding}
-use Rattle.client_session.specs.Turns.{GoesOn, MeetsInAnswer, RisesInAnswer}
+use Rattle.client_session.specs.Turns.{LeavesBodySound, MeetsInAnswer, RisesInAnswer}
 use Rattle.client_session.specs.declared.turn.Settled.{Settled}
 
 abbrev asked_of : Head → Asked
@@ -82,21 +82,21 @@ forwards v head last s n body body' lb balancer exchange_end.NoMemory settled mo
 -- no call on the body had failed after a whole reply
 pub goes_on : (v : Visit) (head : Head) (last : Bool) (s n : ClientStanding) (body body' : BodyIn) (lb : ℕ) (balancer : Lb) (end : ExchangeEnd) (settled : Settled)
     → IsForwardedAt v (errand_at v head last lb balancer) s n body body' end
-    → IsConclusion end balancer.book.members (is_head head) (asked_of head) settled → GoesOn settled.answered body'
+    → IsConclusion end balancer.book.members (is_head head) (asked_of head) settled → LeavesBodySound settled.answered body'
 goes_on v head last s n body body' lb balancer (exchange_end.Done member told) settled at concluded =
-    subst (λ (x : Settled). GoesOn x.answered body') (sym concluded.2) at.gives.takes.going
+    subst (λ (x : Settled). LeavesBodySound x.answered body') (sym concluded.2) at.gives.takes.going
 goes_on v head last s n body body' lb balancer (exchange_end.Own status) settled at concluded =
-    subst (λ (x : Settled). GoesOn x.answered body') (sym concluded) tt
+    subst (λ (x : Settled). LeavesBodySound x.answered body') (sym concluded) tt
 goes_on v head last s n body body' lb balancer (exchange_end.Cut member told) settled at concluded =
-    subst (λ (x : Settled). GoesOn x.answered body') (sym concluded.2) tt
+    subst (λ (x : Settled). LeavesBodySound x.answered body') (sym concluded.2) tt
 goes_on v head last s n body body' lb balancer exchange_end.ClientFault settled at concluded =
-    subst (λ (x : Settled). GoesOn x.answered body') (sym concluded) tt
+    subst (λ (x : Settled). LeavesBodySound x.answered body') (sym concluded) tt
 goes_on v head last s n body body' lb balancer exchange_end.Truncated settled at concluded =
-    subst (λ (x : Settled). GoesOn x.answered body') (sym concluded) tt
+    subst (λ (x : Settled). LeavesBodySound x.answered body') (sym concluded) tt
 goes_on v head last s n body body' lb balancer (exchange_end.Stray ticket returned_at) settled at concluded =
-    subst (λ (x : Settled). GoesOn x.answered body') (sym concluded) tt
+    subst (λ (x : Settled). LeavesBodySound x.answered body') (sym concluded) tt
 goes_on v head last s n body body' lb balancer exchange_end.NoMemory settled at concluded =
-    subst (λ (x : Settled). GoesOn x.answered body') (sym concluded) tt
+    subst (λ (x : Settled). LeavesBodySound x.answered body') (sym concluded) tt
 
 -- a stray was met where the exchange met one
 pub meets : (v : Visit) (head : Head) (last : Bool) (s n : ClientStanding) (body body' : BodyIn) (lb : ℕ) (balancer : Lb) (end : ExchangeEnd) (settled : Settled)
@@ -144,7 +144,7 @@ known_own status own is = rw is refl
 -- the end names a member whose name there is room for, or an own answer that there is
 pub within : (v : Visit) (head : Head) (last : Bool) (s n : ClientStanding) (body body' : BodyIn) (lb : ℕ) (balancer : Lb) (longest room : ℕ) (end : ExchangeEnd)
     → slice_get v.cfg.lbs lb ≡ Some balancer → HasNamesWithin v.cfg (named.Balancer lb) longest → longest ≤ room
-    → IsForwardedAt v (errand_at v head last lb balancer) s n body body' end → IsWithin end balancer.book.members room
+    → IsForwardedAt v (errand_at v head last lb balancer) s n body body' end → NamesWithin end balancer.book.members room
 within v head last s n body body' lb balancer longest room (exchange_end.Done member told) stands names enough at =
     (at.gives.last.config, at.gives.last.configured, omega (arith, enough, names balancer member at.gives.last.config stands at.gives.last.configured))
 within v head last s n body body' lb balancer longest room (exchange_end.Own status) stands names enough at =

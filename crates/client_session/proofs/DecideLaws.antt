@@ -22,7 +22,7 @@ use Rattle.status_worker.specs.BookCommands.{commands_for}
 use Rattle.status_worker.specs.Effects.{is_change, worker_of}
 use Rattle.status_worker.specs.Meaning.{meaning_of}
 use Rattle.status_worker.specs.declared.command.StatusCommand.{StatusCommand}
-use Rattle.status_worker.specs.Commands.{Asks, AsksOpen, IsAllowed, IsRefused, IsRefusedOpen, IsWorkFor, NamesNone, TurnsAway}
+use Rattle.status_worker.specs.Commands.{AsksDesk, AsksOpen, IsAllowed, IsRefusedQuery, IsRefusedOpen, IsWorkFor, NamesNone, TurnsAway}
 use Rattle.status_worker.specs.Desks.{DeskSide}
 use Rattle.status_worker.specs.declared.asking.Work.{Work}
 use Rattle.client_session.specs.Answers.{IsAnswer, IsAnswerAt, IsAtStatus, StopsEarly}
@@ -146,7 +146,7 @@ open_one cfg status query code other (inr (inr a)) (inl b) = absurd (none_some q
 open_one cfg status query code other (inr (inr a)) (inr (inl b)) = absurd (not_allowed status a.0 b.0 (same_command query a.0 b.0 a.2 b.2) a.3 b.3 b.4)
 open_one cfg status query code other (inr (inr a)) (inr (inr b)) = a.1 ∙ sym b.1
 
-refused_one : (cfg : Config) (status : Status) (query : Option (List ℕ)) (code other : PageRefusal) → IsRefused cfg status query code → IsRefused cfg status query other
+refused_one : (cfg : Config) (status : Status) (query : Option (List ℕ)) (code other : PageRefusal) → IsRefusedQuery cfg status query code → IsRefusedQuery cfg status query other
     → code ≡ other
 refused_one cfg status query code other (inl a) (inl b) = a.0 ∙ sym b.0
 refused_one cfg status query code other (inl a) (inr b) = absurd (both_ways status.closed b.0 a.1)
@@ -176,7 +176,7 @@ open_unasked cfg status query code work (inr (inl r)) asks = not_allowed status 
 open_unasked cfg status query code work (inr (inr r)) asks =
     named_none cfg asks.0 work (subst (NamesNone cfg) (same_command query r.0 asks.0 r.2 asks.1) r.4) asks.3
 
-refused_unasked : (cfg : Config) (status : Status) (query : Option (List ℕ)) (code : PageRefusal) (work : Work) → IsRefused cfg status query code → Asks cfg status query work → ⊥
+refused_unasked : (cfg : Config) (status : Status) (query : Option (List ℕ)) (code : PageRefusal) (work : Work) → IsRefusedQuery cfg status query code → AsksDesk cfg status query work → ⊥
 refused_unasked cfg status query code work (inl closed') asks = both_ways status.closed asks.0 closed'.1
 refused_unasked cfg status query code work (inr refused) asks = open_unasked cfg status query code work refused.1 asks.1
 
@@ -241,18 +241,18 @@ one_status v head a b one two =
     one_some (slice_get v.cfg.statuses one.place) a b one.stands
     (subst (λ (k : ℕ). slice_get v.cfg.statuses k ≡ Some b) (sym same) two.stands)
 
-turned_own : (cfg : Config) (session : ℕ) (status : Status) (query : Option (List ℕ)) (s n : DeskSide) (code other : PageRefusal) → IsRefused cfg status query code
+turned_own : (cfg : Config) (session : ℕ) (status : Status) (query : Option (List ℕ)) (s n : DeskSide) (code other : PageRefusal) → IsRefusedQuery cfg status query code
     → TurnsAway cfg session status query s n other → other ≡ code
 turned_own cfg session status query s n code other refused (inl turned) = refused_one cfg status query other code turned.0 refused
 turned_own cfg session status query s n code other refused (inr (work, error, asks, stops, is)) = absurd (refused_unasked cfg status query code work refused asks)
 
 refused_own : (v : Visit) (head : Head) (last : Bool) (s n : ClientStanding) (body body' : BodyIn) (a : Answered) (rows : List Served) (status : Status) (code : PageRefusal)
-    → IsAnswerAt v head last s n body body' a rows → IsAtStatus v head status → IsRefused v.cfg status head.query code → IsOwnOrLess (why.Refused code) a
+    → IsAnswerAt v head last s n body body' a rows → IsAtStatus v head status → IsRefusedQuery v.cfg status head.query code → IsOwnOrLess (why.Refused code) a
 refused_own v head last s n body body' answered.Whole rows status code (inl (member, told, row, is, row_is, added)) at refused =
     absurd (not_both v head is.lb status is.mounted at)
 refused_own v head last s n body body' answered.Whole rows status code (inr (other, m, page, there, has, written, same, added)) at refused =
     absurd (refused_unasked v.cfg status head.query code has.done.0 refused
-    (subst (λ (x : Status). Asks v.cfg x head.query has.done.0) (one_status v head other status there at) has.done.1))
+    (subst (λ (x : Status). AsksDesk v.cfg x head.query has.done.0) (one_status v head other status there at) has.done.1))
 refused_own v head last s n body body' (answered.Not (stop.Closed why.ByClient)) rows status code answer at refused = absurd answer
 refused_own v head last s n body body' (answered.Not (stop.Closed why.Idle)) rows status code answer at refused = absurd answer
 refused_own v head last s n body body' (answered.Not (stop.Closed why.Last)) rows status code answer at refused = absurd answer
@@ -280,7 +280,7 @@ record HasHead (v : Visit) (number : ℕ) (s : ClientStanding) (end : SessionEnd
   head : Head
   reads : ReadsHead s read head
   unmounted : mounted_at v head ≡ None → end ≡ end_of (stop.Closed (why.Own 404)) number
-  turned_away : (status : Status) (code : PageRefusal) → IsAtStatus v head status → IsRefused v.cfg status head.query code
+  turned_away : (status : Status) (code : PageRefusal) → IsAtStatus v head status → IsRefusedQuery v.cfg status head.query code
       → end ≡ end_of (stop.Closed (why.Refused code)) number
 
 -- where such an answer closes the session, neither a fault of the client nor want of memory was met
@@ -423,5 +423,5 @@ decides v number s n rows end bytes ends_in told = record {
   turned_away = λ used rest head status code whole is at refused. calmly_on end.stop (at_front v number s n rows end.requests end.stop ends_in) (λ front.
       let by = headed_by v number s n end bytes used rest head told front whole is in
       by.0.turned_away status code (subst (λ (x : Head). IsAtStatus v x status) (sym by.1) at)
-      (subst (λ (x : Head). IsRefused v.cfg status x.query code) (sym by.1) refused));
+      (subst (λ (x : Head). IsRefusedQuery v.cfg status x.query code) (sym by.1) refused));
 }

@@ -15,7 +15,7 @@ use Rattle.status_worker.proofs.DeskLaws.{twice, untouched}
 use Rattle.std.proofs.lemmas.Option.{slice_get_read}
 use Rattle.exchange.specs.Requests.{is_head}
 use Rattle.client_session.specs.Answers.{IsAnswerAt, IsAtStatus, IsStatusAnswer}
-use Rattle.client_session.specs.Concluding.{HasRoom, IsKnownStop, rows_of}
+use Rattle.client_session.specs.Concluding.{HasRowRoom, IsKnownStop, rows_of}
 use Rattle.client_session.specs.Keeping.{IsShown, KeepsAround}
 use Rattle.client_session.specs.Ready.{IsReady}
 use Rattle.client_session.specs.Requests.{Visit}
@@ -73,7 +73,7 @@ as_many_since before now same = omega (arith, same)
 -- ---- a status worker's answer
 
 -- the row has room for the status worker's name
-pub room_for_status : (cfg : Config) (head : Head) (row : Row) (place : ℕ) (status : Status) → HasRoom cfg (named.Status place) head row
+pub room_for_status : (cfg : Config) (head : Head) (row : Row) (place : ℕ) (status : Status) → HasRowRoom cfg (named.Status place) head row
     → place < length cfg.statuses → status ≡ get_or cfg.statuses place status → length status.name ≤ vec_capacity row.name
 room_for_status cfg head row place status room within is =
     let fits : length status.name ≤ room.0 = room.2 status (slice_get_read cfg.statuses (length cfg.statuses) place status refl within is) in

@@ -8,7 +8,7 @@ use Rattle.client_session.specs.Requests.{Visit, visit_at}
 use Rattle.client_session.specs.Sessions.{ReadsHead}
 use Rattle.client_session.specs.Standings.{ClientStanding}
 use Rattle.client_session.specs.Surroundings.{TurnsNow}
-use Rattle.client_session.specs.Turns.{Turns}
+use Rattle.client_session.specs.Turns.{TurnsSession}
 use Rattle.client_session.specs.declared.ending.SessionStop.{SessionStop}
 use Rattle.client_session.specs.declared.ending.SessionStop.TheVariants as stop
 use Rattle.client_session.specs.declared.ending.Why.TheVariants as why
@@ -119,11 +119,11 @@ next_since s read head dated date clock reads next =
     subst (λ (k : Option (List ℕ)). IsNextDate dated k clock date) (ap (λ (x : ClientStanding). x.desk.clock) reads.on.alone) next
 
 pub turned_now : (v : Visit) (number : ℕ) (s n : ClientStanding) (clock : Option (List ℕ)) (date : Option HttpDate) (puts : List Served → Type 0) (turn' : SessionTurn)
-    → IsNextDate v.dated s.desk.clock clock date → Turns (visit_at v date) number (clocked s clock) n puts turn' → TurnsNow v number s n puts turn'
+    → IsNextDate v.dated s.desk.clock clock date → TurnsSession (visit_at v date) number (clocked s clock) n puts turn' → TurnsNow v number s n puts turn'
 turned_now v number s n clock date puts turn' next turned =
     (date, clocked s clock, reads_turn turn' v s (clocked s clock) date (clock_read v s clock date next), turned)
 
 -- nothing was answered, and no moment read
-pub turned_unread : (v : Visit) (number : ℕ) (s n : ClientStanding) (puts : List Served → Type 0) → Turns (visit_at v None) number s n puts (turn.EndsAt (stop.Closed why.ByClient))
+pub turned_unread : (v : Visit) (number : ℕ) (s n : ClientStanding) (puts : List Served → Type 0) → TurnsSession (visit_at v None) number s n puts (turn.EndsAt (stop.Closed why.ByClient))
     → TurnsNow v number s n puts (turn.EndsAt (stop.Closed why.ByClient))
 turned_unread v number s n puts turned = (None, s, inl (refl, refl), turned)

@@ -34,11 +34,11 @@ use Rattle.exchange.specs.Deliveries.{PutsShort}
 use Rattle.exchange.specs.declared.ending.ExchangeEnd.TheVariants as exchange_end
 use Rattle.exchange.specs.declared.ending.ExchangeEnd.{ExchangeEnd}
 use Rattle.client_session.specs.Answers.{IsAnswer, IsAnswerAt, IsAtStatus, IsEarlyBegun, IsEarlyLess, IsForwarded, IsStatusBegun, IsStatusLess, IsToldOn, errand_at, own_bytes_of, own_for}
-use Rattle.client_session.specs.Parts.{AreParts, HasParts, IsCutFor, IsDueAnswer, IsFrontOfAnswer, IsLastWritten, IsLessOfAnswer, IsOwnAnswer, IsPageAnswer, IsPageFor, IsPart, IsRefusalAnswer, IsReplyFor, IsUnreadAnswer, IsWholeAnswer, SessionPart, taken_in, talks_in, written_in}
+use Rattle.client_session.specs.Parts.{AreParts, HasParts, IsCutFor, IsDueAnswer, IsFrontOfAnswer, IsLastWritten, IsLessOfAnswer, IsOwnAnswer, IsPageAnswer, IsPageFor, IsSessionPart, IsRefusalAnswer, IsReplyFor, IsUnreadAnswer, IsWholeAnswer, SessionPart, taken_in, talks_in, written_in}
 use Rattle.client_session.specs.Moments.{IsTold}
 use Rattle.client_session.proofs.MomentLaws.{StaysButClock, last_stays, moment_stays, told_last, told_moment}
 use Rattle.client_session.specs.Requests.{IsNewBody, Visit, continue_for, is_last, kind_at, own_kind_at, refused_kind, visit_at}
-use Rattle.client_session.specs.Sessions.{EndsIn, HaveServed, IsRefusalBegun, IsRefusalWanted, IsRequest, IsServed, IsSession, IsUnread, ReadsHead}
+use Rattle.client_session.specs.Sessions.{EndsIn, HaveServed, IsRefusalBegun, IsRefusalWanted, IsRequest, IsServedWhole, IsSession, LeavesBodyUnread, ReadsHead}
 use Rattle.client_session.specs.Standings.{IsBegun, IsClientAlone, IsLess, IsWritten, ClientStanding, ReachSide, unread_at, with_body}
 use Rattle.client_session.specs.declared.ending.SessionEnd.{SessionEnd}
 use Rattle.client_session.specs.declared.ending.SessionStop.{SessionStop}
@@ -210,8 +210,8 @@ whole_request v number s n body rows r =
       place = has.place;
     }
 
-part_of : (v : Visit) (date : Option HttpDate) (number : ℕ) (s n : ClientStanding) (rows : List Served) → IsTold v date → IsServed (visit_at v date) number s n rows
-    → (part : SessionPart) × IsPart v number part × Moves s n part.taken part.written part.talks
+part_of : (v : Visit) (date : Option HttpDate) (number : ℕ) (s n : ClientStanding) (rows : List Served) → IsTold v date → IsServedWhole (visit_at v date) number s n rows
+    → (part : SessionPart) × IsSessionPart v number part × Moves s n part.taken part.written part.talks
 part_of v date number s n rows told served =
     let r = served.going_on.request in
     let on = served.skips.passes.on in
@@ -543,7 +543,7 @@ wanted v number s n body rows r = since_head (IsLessOfAnswer v number) s r.read 
     by_answer (inr (told, on, (none, inr (status, at, inr nothing_written)))) = unwritten v number r.head r.read told n on nothing_written.alone
 
 -- the answer was whole, and the rest of the body wasn't read
-unread_whole : (v : Visit) (number requests : ℕ) (s n : ClientStanding) (rows : List Served) (why' : BodyFault) → requests ≡ number + 1 → IsUnread v number s n rows why'
+unread_whole : (v : Visit) (number requests : ℕ) (s n : ClientStanding) (rows : List Served) (why' : BodyFault) → requests ≡ number + 1 → LeavesBodyUnread v number s n rows why'
     → Ends (IsUnreadAnswer v number requests) s n
 unread_whole v number requests s n rows why' count (body, mid, going_on, breaks) =
     let has = whole_request v number s mid body rows going_on.request in

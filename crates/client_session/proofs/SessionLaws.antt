@@ -7,7 +7,7 @@ use Rattle.jk_io.specs.Told.{IsEmpty, Rose}
 use Rattle.jk_io.specs.declared.reaching.Beside.{Beside}
 use Rattle.lb_model.specs.declared.served.Served.{Served}
 use Rattle.httpdate.specs.declared.date.HttpDate.{HttpDate}
-use Rattle.http_front.specs.Answer.{IfRefused, IsCalm}
+use Rattle.http_front.specs.Answer.{IfRefused, IsCalmHead}
 use Rattle.http_front.specs.Refusal.{status_of}
 use Rattle.http_front.specs.Request.{EndsWithin, IsDecided, Refuses}
 use Rattle.http_front.specs.declared.answers.Form.{Form}
@@ -25,7 +25,7 @@ use Rattle.client_session.specs.Requests.{Visit, visit_at}
 use Rattle.client_session.specs.Sessions.{EndsIn, HaveServed, IsSession, ReadsEnd, ReadsRefused, refused_row}
 use Rattle.client_session.specs.Standings.{IsClientAlone, ClientStanding, StopsReading, unread_at}
 use Rattle.client_session.specs.Surroundings.{TurnsNow}
-use Rattle.client_session.specs.Turns.{Turns}
+use Rattle.client_session.specs.Turns.{TurnsSession}
 use Rattle.client_session.specs.declared.ending.SessionEnd.{SessionEnd}
 use Rattle.client_session.specs.declared.ending.SessionStop.{SessionStop}
 use Rattle.client_session.specs.declared.ending.SessionStop.TheVariants as stop
@@ -41,15 +41,15 @@ rose_since : (first before now : ℕ) → before ≡ first → Rose before now �
 rose_since first before now is rose = subst (λ (k : ℕ). Rose k now) is rose
 
 pub refuses : (v : Visit) (number : ℕ) (s read n : ClientStanding) (form : Form) (puts : List Served → Type 0) (stop' : SessionStop) → ReadsRefused s read form
-    → n ≡ record read { client = n.client } → RefusesHead v.date form read.client n.client puts stop' → Turns v number s n puts (turn.EndsAt stop')
+    → n ≡ record read { client = n.client } → RefusesHead v.date form read.client n.client puts stop' → TurnsSession v number s n puts (turn.EndsAt stop')
 refuses v number s read n form puts stop' reads alone (inl wanted) =
-    subst (λ (x : SessionStop). Turns v number s n puts (turn.EndsAt x)) (sym wanted.0)
+    subst (λ (x : SessionStop). TurnsSession v number s n puts (turn.EndsAt x)) (sym wanted.0)
     ([], wanted.2, inl (refl, refl, inr (inr (inl (read, form, reads, same_again read n alone wanted.1)))))
 refuses v number s read n form puts (stop.Closed why.ByClient) reads alone (inr written) = absurd written.0
 refuses v number s read n form puts (stop.Closed why.Idle) reads alone (inr written) = absurd written.0
 refuses v number s read n form puts (stop.Closed why.Last) reads alone (inr written) = absurd written.0
 refuses v number s read n form puts (stop.Closed (why.Own code)) reads alone (inr written) =
-    subst (λ (c : ℕ). Turns v number s n puts (turn.EndsAt (stop.Closed (why.Own c)))) (sym written.0.0) (
+    subst (λ (c : ℕ). TurnsSession v number s n puts (turn.EndsAt (stop.Closed (why.Own c)))) (sym written.0.0) (
       refused_row (status_of form) ∷ [],
       written.1,
       (refl, inl (record { read = read; form = form; reads = reads; status = refl; written = record { puts = written.0.1; alone = alone } }, refl)),
@@ -126,19 +126,19 @@ pub record ReadsNoHead (s read : ClientStanding) (e : HeadError) : Type 0 where
   pub truncated : IsErrOf {T = HeadGot} (Err e) error.Truncated → EndsWithin read.inbox × IsEmpty read.client.incoming
   pub fault : IsErrOf {T = HeadGot} (Err e) error.Fault → Rose s.client.faults read.client.faults
   pub awaited : IsErrOf {T = HeadGot} (Err e) error.Fault → IsDecided read.inbox → ⊥
-  pub steady : IsCalm {T = HeadGot} (Err e) → read.client.faults ≡ s.client.faults
+  pub steady : IsCalmHead {T = HeadGot} (Err e) → read.client.faults ≡ s.client.faults
 
 stays : (s read : ClientStanding) (e : HeadError) → ReadsNoHead s read e → StopsReading s read
 stays s read e reads = record { alone = reads.alone; sent = reads.sent; unused = reads.unused; no_fewer = reads.no_fewer }
 
 ends_there : (v : Visit) (number : ℕ) (s read n : ClientStanding) (puts : List Served → Type 0) (stop' x : SessionStop) → n ≡ record read { client = n.client }
-    → (stop' ≡ x) × (n.client ≡ read.client) × puts [] → EndsIn v number s read [] number x → Turns v number s n puts (turn.EndsAt stop')
+    → (stop' ≡ x) × (n.client ≡ read.client) × puts [] → EndsIn v number s read [] number x → TurnsSession v number s n puts (turn.EndsAt stop')
 ends_there v number s read n puts stop' x alone stops why' =
-    subst (λ (m : ClientStanding). Turns v number s m puts (turn.EndsAt stop')) (sym (same_again read n alone stops.1))
-    (subst (λ (y : SessionStop). Turns v number s read puts (turn.EndsAt y)) (sym stops.0) ([], stops.2, why'))
+    subst (λ (m : ClientStanding). TurnsSession v number s m puts (turn.EndsAt stop')) (sym (same_again read n alone stops.1))
+    (subst (λ (y : SessionStop). TurnsSession v number s read puts (turn.EndsAt y)) (sym stops.0) ([], stops.2, why'))
 
 pub without_head : (v : Visit) (number : ℕ) (s read n : ClientStanding) (e : HeadError) (puts : List Served → Type 0) (stop' : SessionStop) → ReadsNoHead s read e
-    → n ≡ record read { client = n.client } → StopsWithoutHead v.date e read.client n.client puts stop' → Turns v number s n puts (turn.EndsAt stop')
+    → n ≡ record read { client = n.client } → StopsWithoutHead v.date e read.client n.client puts stop' → TurnsSession v number s n puts (turn.EndsAt stop')
 without_head v number s read n (error.Refused status form) puts stop' reads alone stops =
     refuses v number s read n form puts stop'
     (record { refused = reads.refused.1; unused = reads.unused; on = record { alone = reads.alone; sent = reads.sent; steady = reads.steady tt } }) alone stops
@@ -181,7 +181,7 @@ no_fewer_without_head date error.NoMemory s n puts stop' stops = subst (λ (m : 
 
 -- the client's bytes ended between two requests
 pub ends_by_client : (v : Visit) (number : ℕ) (s n : ClientStanding) (puts : List Served → Type 0) → puts [] → ReadsEnd s n
-    → Turns v number s n puts (turn.EndsAt (stop.Closed why.ByClient))
+    → TurnsSession v number s n puts (turn.EndsAt (stop.Closed why.ByClient))
 ends_by_client v number s n puts none reads = ([], none, (refl, reads, refl))
 
 -- ---- one request after the other

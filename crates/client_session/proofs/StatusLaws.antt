@@ -5,7 +5,7 @@ use Rattle.http_front.specs.declared.head.Head.{Head}
 use Rattle.http_out.specs.declared.framing.RequestKind.{RequestKind}
 use Rattle.site_config.specs.declared.config.Status.{Status}
 use Rattle.client_session.specs.Answers.{HasPage, IsStatusAnswer, IsStatusBegun, IsStatusLess}
-use Rattle.status_worker.specs.Commands.{IsBroken, IsDone, TurnsAway}
+use Rattle.status_worker.specs.Commands.{IsBrokenCommand, IsDone, TurnsAway}
 use Rattle.status_worker.specs.Pages.{IsPage, shown_for}
 use Rattle.status_worker.specs.Refusals.{refusal_bytes}
 use Rattle.client_session.specs.Requests.{Visit, kind_at, own_kind_at, visit_in}
@@ -150,6 +150,6 @@ page_sent i status s seen now clock w only (Err stop') same done sent =
     ]
 
 -- memory was wanted before all that was asked was done
-pub never_done : (v : Visit) (status : Status) (head : Head) (last : Bool) (s : ClientStanding) (d : DeskSide) → IsBroken v.cfg v.session status head.query s.desk d
+pub never_done : (v : Visit) (status : Status) (head : Head) (last : Bool) (s : ClientStanding) (d : DeskSide) → IsBrokenCommand v.cfg v.session status head.query s.desk d
     → IsStatusAnswer v status head last s (asked_on s d) (Err stop.NoMemory)
 never_done v status head last s d broken = inr (record { alone = refl; why = inl broken })

@@ -23,7 +23,7 @@ use Rattle.client_session.specs.Finishing.{Finishes, StopsWithoutHead, TurnsAfte
 use Rattle.client_session.specs.Requests.{IsNewBody, Visit, is_last, refused_kind}
 use Rattle.client_session.specs.Sessions.{EndsIn, IsGoingOn, IsRequest, ReadsHead}
 use Rattle.client_session.specs.Standings.{IsClientAlone, ClientStanding}
-use Rattle.client_session.specs.Turns.{GoesOn, IsBusy, IsBusyStop, IsTurn, MeetsInAnswer, MeetsInTurn, RisesInAnswer, RisesInTurn, Turns}
+use Rattle.client_session.specs.Turns.{LeavesBodySound, IsBusy, IsBusyStop, IsTurn, MeetsInAnswer, MeetsInTurn, RisesInAnswer, RisesInTurn, TurnsSession}
 use Rattle.client_session.specs.Writing.{WritesOwn}
 use Rattle.client_session.specs.declared.ending.SessionEnd.{SessionEnd}
 use Rattle.client_session.specs.declared.ending.SessionStop.{SessionStop}
@@ -123,7 +123,7 @@ answered_as v number read n head fresh body a b last rows same is answers =
 
 -- there was no memory for its row
 pub unrowed : (v : Visit) (number : ℕ) (s read : ClientStanding) (head : Head) (fresh : BodyIn) (puts : List Served → Type 0) → IsNewBody head.plan fresh
-    → puts [] → ReadsHead s read head → Turns v number s read puts (turn.EndsAt stop.NoMemory)
+    → puts [] → ReadsHead s read head → TurnsSession v number s read puts (turn.EndsAt stop.NoMemory)
 unrowed v number s read head fresh puts is_fresh none reads = (
   [],
   none,
@@ -134,7 +134,7 @@ unrowed v number s read head fresh puts is_fresh none reads = (
 pub turn_stops : (v : Visit) (number : ℕ) (s read n : ClientStanding) (head : Head) (fresh body : BodyIn) (a : Answered) (stop' : SessionStop) (last : Bool) (puts : List Served → Type 0) (added : List Served)
     → IsNewBody head.plan fresh → puts added → a ≡ answered.Not stop' → last ≡ is_last number head
     → IsAnswer v head last read n fresh body a added → RisesInAnswer a read.client.faults n.client.faults → ReadsHead s read head
-    → Turns v number s n puts (turn.EndsAt stop')
+    → TurnsSession v number s n puts (turn.EndsAt stop')
 turn_stops v number s read n head fresh body a stop' last puts added is_fresh put is ends answers rises reads = (
   added,
   put,
@@ -145,7 +145,7 @@ turn_stops v number s read n head fresh body a stop' last puts added is_fresh pu
 -- it was, and is the last one
 pub turn_last : (v : Visit) (number : ℕ) (s read n : ClientStanding) (head : Head) (fresh body : BodyIn) (a : Answered) (last : Bool) (puts : List Served → Type 0) (added : List Served)
     → IsNewBody head.plan fresh → puts added → a ≡ answered.Whole → last ≡ is_last number head → last ≡ true
-    → IsAnswer v head last read n fresh body a added → ReadsHead s read head → Turns v number s n puts (turn.EndsAfter (stop.Closed why.Last))
+    → IsAnswer v head last read n fresh body a added → ReadsHead s read head → TurnsSession v number s n puts (turn.EndsAfter (stop.Closed why.Last))
 turn_last v number s read n head fresh body a last puts added is_fresh put is ends true' answers reads = (
   added,
   put,
@@ -162,8 +162,8 @@ turn_last v number s read n head fresh body a last puts added is_fresh put is en
 -- it was, and isn't the last one
 pub turn_finishes : (v : Visit) (number : ℕ) (s read m n : ClientStanding) (head : Head) (fresh body after : BodyIn) (a : Answered) (last : Bool) (puts : List Served → Type 0) (added : List Served) (turn' : SessionTurn)
     → IsNewBody head.plan fresh → puts added → a ≡ answered.Whole → last ≡ is_last number head → last ≡ false
-    → IsAnswer v head last read m fresh body a added → GoesOn a body → IsClientAlone m n
-    → Finishes (body_at body m.inbox m.client) (body_at after n.inbox n.client) turn' → ReadsHead s read head → Turns v number s n puts turn'
+    → IsAnswer v head last read m fresh body a added → LeavesBodySound a body → IsClientAlone m n
+    → Finishes (body_at body m.inbox m.client) (body_at after n.inbox n.client) turn' → ReadsHead s read head → TurnsSession v number s n puts turn'
 turn_finishes v number s read m n head fresh body after a last puts added turn' is_fresh put is ends false' answers going alone finished reads = (
   added,
   put,
@@ -172,7 +172,7 @@ turn_finishes v number s read m n head fresh body after a last puts added turn' 
         request = request v number s read m head fresh body answered.Whole added reads is_fresh (answered_as v number read m head fresh body a answered.Whole last added is ends answers);
         more = sym ends ∙ false';
       })
-      (subst (λ (x : Answered). GoesOn x body) is going) alone finished,
+      (subst (λ (x : Answered). LeavesBodySound x body) is going) alone finished,
 )
 
 -- ---- what follows the answer
@@ -182,15 +182,15 @@ same_standing mid n body after alone same = alone ∙ ap (λ (m : BodyMoment). r
 
 pub turn_follows : (v : Visit) (number : ℕ) (s read mid n : ClientStanding) (head : Head) (fresh body after : BodyIn) (a : Answered) (last : Bool) (puts : List Served → Type 0) (added : List Served) (turn' : SessionTurn)
     → IsNewBody head.plan fresh → puts added → last ≡ is_last number head
-    → IsAnswer v head last read mid fresh body a added → RisesInAnswer a read.client.faults mid.client.faults → GoesOn a body → IsClientAlone mid n
-    → TurnsAfter a last (body_at body mid.inbox mid.client) (body_at after n.inbox n.client) turn' → ReadsHead s read head → Turns v number s n puts turn'
+    → IsAnswer v head last read mid fresh body a added → RisesInAnswer a read.client.faults mid.client.faults → LeavesBodySound a body → IsClientAlone mid n
+    → TurnsAfter a last (body_at body mid.inbox mid.client) (body_at after n.inbox n.client) turn' → ReadsHead s read head → TurnsSession v number s n puts turn'
 turn_follows v number s read mid n head fresh body after (answered.Not stop') last puts added turn' is_fresh put ends answers rises going alone turned reads =
-    subst (λ (x : SessionTurn). Turns v number s n puts x) (sym turned.0)
-    (subst (λ (m : ClientStanding). Turns v number s m puts (turn.EndsAt stop')) (sym (same_standing mid n body after alone turned.1))
+    subst (λ (x : SessionTurn). TurnsSession v number s n puts x) (sym turned.0)
+    (subst (λ (m : ClientStanding). TurnsSession v number s m puts (turn.EndsAt stop')) (sym (same_standing mid n body after alone turned.1))
     (turn_stops v number s read mid head fresh body (answered.Not stop') stop' last puts added is_fresh put refl ends answers rises reads))
 turn_follows v number s read mid n head fresh body after answered.Whole true puts added turn' is_fresh put ends answers rises going alone turned reads =
-    subst (λ (x : SessionTurn). Turns v number s n puts x) (sym turned.0)
-    (subst (λ (m : ClientStanding). Turns v number s m puts (turn.EndsAfter (stop.Closed why.Last))) (sym (same_standing mid n body after alone turned.1))
+    subst (λ (x : SessionTurn). TurnsSession v number s n puts x) (sym turned.0)
+    (subst (λ (m : ClientStanding). TurnsSession v number s m puts (turn.EndsAfter (stop.Closed why.Last))) (sym (same_standing mid n body after alone turned.1))
     (turn_last v number s read mid head fresh body answered.Whole true puts added is_fresh put refl ends refl answers reads))
 turn_follows v number s read mid n head fresh body after answered.Whole false puts added turn' is_fresh put ends answers rises going alone turned reads =
     turn_finishes v number s read mid n head fresh body after answered.Whole false puts added turn' is_fresh put refl ends refl answers going alone turned reads
@@ -244,7 +244,7 @@ finished_rises s n (turn.EndsAfter stop') first same going finished =
     subst (λ (x : SessionStop). RisesBy x first n.client.faults) (sym finished.2) (risen_unread finished.0 s n first same going finished.1)
 finished_rises s n (turn.EndsAt stop') first same going finished = absurd finished
 
-pub follows_rises : (a : Answered) (last : Bool) (s n : BodyMoment) (turn' : SessionTurn) (first : ℕ) → GoesOn a s.body
+pub follows_rises : (a : Answered) (last : Bool) (s n : BodyMoment) (turn' : SessionTurn) (first : ℕ) → LeavesBodySound a s.body
     → TurnsAfter a last s n turn' → RisesInAnswer a first s.client.faults → RisesInTurn turn' first n.client.faults
 follows_rises (answered.Not stop') last s n turn' first going turned rises =
     subst (λ (x : SessionTurn). RisesInTurn x first n.client.faults) (sym turned.0)

@@ -17,15 +17,15 @@ use Rattle.status_worker.specs.declared.page.PagePart.{PagePart}
 use Rattle.site_mounts.specs.Mounts.{terms}
 use Rattle.ajp_talk.specs.declared.ending.Told.{Told}
 use Rattle.ajp_talk.specs.Moments.{IsUsed}
-use Rattle.exchange.specs.Clients.{Gives, MeetsAt}
+use Rattle.exchange.specs.Clients.{GivesClient, MeetsAt}
 use Rattle.exchange.specs.Complete.{Completes}
-use Rattle.exchange.specs.Exchanges.{IsCalm, IsExchange, NotesTalks}
+use Rattle.exchange.specs.Exchanges.{IsCalmExchange, IsExchange, NotesTalks}
 use Rattle.exchange.specs.Requests.{Errand, errand, is_head}
 use Rattle.exchange.specs.Rounds.{IsDeskAfter}
 use Rattle.exchange.specs.WholeTalks.{IsWholeOnce}
 use Rattle.exchange.specs.declared.ending.ExchangeEnd.TheVariants as exchange_end
 use Rattle.exchange.specs.declared.ending.ExchangeEnd.{ExchangeEnd}
-use Rattle.status_worker.specs.Commands.{IsBroken, IsDone, TurnsAway}
+use Rattle.status_worker.specs.Commands.{IsBrokenCommand, IsDone, TurnsAway}
 use Rattle.status_worker.specs.Pages.{IsPageOf, page_reply, sent_of, shown_for}
 use Rattle.status_worker.specs.Refusals.{code_of, refusal_body, refusal_bytes}
 use Rattle.status_worker.specs.declared.refusal.PageRefusal.{PageRefusal}
@@ -85,14 +85,14 @@ own_for status kind = own_bytes_of (own_of status) kind
 -- The exchange of the request, from its whole body on, with the terms of its mount. It asks the desk for no command.
 pub record IsForwardedAt (v : Visit) (q : Errand) (s n : ClientStanding) (body body' : BodyIn) (end : ExchangeEnd) : Type 0 where
   pub exchange : IsExchange q (with_body s body) (with_body n body') end
-  pub gives : Gives q (with_body s body) (with_body n body') end
+  pub gives : GivesClient q (with_body s body) (with_body n body') end
   pub noted : NotesTalks q (with_body s body) (with_body n body') end
   pub used : IsUsed (with_body s body).around.body (with_body n body').around.body
   pub whole_once : IsWholeOnce q (with_body s body).around (with_body n body').around
   pub complete : Completes q (with_body s body) (with_body n body') end
   pub kept : IsDeskAfter q.lb q.session s.desk.state n.desk.state
   pub met : MeetsAt end s.desk.state n.desk.state
-  pub calm : IsCalm end → n.client.faults ≡ s.client.faults
+  pub calm : IsCalmExchange end → n.client.faults ≡ s.client.faults
   pub no_fewer : (s.reach.faults ≤ n.reach.faults) × (s.client.faults ≤ n.client.faults)
 
 -- the errand of a request for the balancer at this place
@@ -144,7 +144,7 @@ IsStatusLess v status head last s n =
 -- Nothing was written: memory was wanted before what was asked was done, or after it.
 pub record IsStatusUnwritten (v : Visit) (status : Status) (query : Option (List ℕ)) (s n : ClientStanding) : Type 0 where
   pub alone : n ≡ record s { desk = n.desk }
-  pub why : IsBroken v.cfg v.session status query s.desk n.desk ⊎ ((only : Option ℕ) × IsDone v.cfg v.session status query s.desk n.desk only)
+  pub why : IsBrokenCommand v.cfg v.session status query s.desk n.desk ⊎ ((only : Option ℕ) × IsDone v.cfg v.session status query s.desk n.desk only)
 
 -- The answer to a status worker's request: the page, as many bytes of it as are sent, or why there is none.
 abbrev pub IsStatusAnswer : Visit → Status → Head → (last : Bool) → (s n : ClientStanding) → Result ℕ SessionStop → Type 0

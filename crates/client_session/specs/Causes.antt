@@ -14,7 +14,7 @@ use Rattle.exchange.specs.Clients.{EndsWith, GivesUp, IsTooLarge, MeetsBody}
 use Rattle.exchange.specs.Ends.{is_status}
 use Rattle.exchange.specs.declared.ending.ExchangeEnd.TheVariants as exchange_end
 use Rattle.site_config.specs.declared.config.Status.{Status}
-use Rattle.status_worker.specs.Commands.{IsRefused}
+use Rattle.status_worker.specs.Commands.{IsRefusedQuery}
 use Rattle.status_worker.specs.declared.refusal.PageRefusal.{PageRefusal}
 use Rattle.status_worker.specs.declared.refusal.PageRefusal.TheVariants as refusal_is
 use Rattle.client_session.specs.Answers.{IsAtStatus, IsForwarded, IsToldOn, IsTurnedAway, errand_at}
@@ -53,7 +53,7 @@ pub record DecidesEnd (v : Visit) (number : ℕ) (bytes : List ℕ) (end : Sessi
   pub unmounted : (used rest : List ℕ) (head : Head) → bytes ≡ used ++ rest → IsHeadOf used head → mounted_at v head ≡ None
       → Calmly end.stop (end ≡ end_of (stop.Closed (why.Own 404)) number)
   pub turned_away : (used rest : List ℕ) (head : Head) (status : Status) (refusal : PageRefusal) → bytes ≡ used ++ rest → IsHeadOf used head
-      → IsAtStatus v head status → IsRefused v.cfg status head.query refusal
+      → IsAtStatus v head status → IsRefusedQuery v.cfg status head.query refusal
       → Calmly end.stop (end ≡ end_of (stop.Closed (why.Refused refusal)) number)
 
 -- ---- why an own answer was given

@@ -37,14 +37,14 @@ abbrev pub HoldsName : List MemberConfig → (member room : ℕ) → Type 0
 HoldsName members member room = (config : MemberConfig) × (slice_get members member ≡ Some config) × (length config.name ≤ room)
 
 -- the end names a member whose name the room holds, or an own answer that there is
-abbrev pub IsWithin : ExchangeEnd → List MemberConfig → (room : ℕ) → Type 0
-IsWithin (exchange_end.Done member told) members room = HoldsName members member room
-IsWithin (exchange_end.Own status) members room = IsSome (own_of status)
-IsWithin (exchange_end.Cut member told) members room = HoldsName members member room
-IsWithin exchange_end.ClientFault members room = Unit {0}
-IsWithin exchange_end.Truncated members room = Unit {0}
-IsWithin (exchange_end.Stray ticket returned_at) members room = Unit {0}
-IsWithin exchange_end.NoMemory members room = Unit {0}
+abbrev pub NamesWithin : ExchangeEnd → List MemberConfig → (room : ℕ) → Type 0
+NamesWithin (exchange_end.Done member told) members room = HoldsName members member room
+NamesWithin (exchange_end.Own status) members room = IsSome (own_of status)
+NamesWithin (exchange_end.Cut member told) members room = HoldsName members member room
+NamesWithin exchange_end.ClientFault members room = Unit {0}
+NamesWithin exchange_end.Truncated members room = Unit {0}
+NamesWithin (exchange_end.Stray ticket returned_at) members room = Unit {0}
+NamesWithin exchange_end.NoMemory members room = Unit {0}
 
 -- the row of what the member gave
 abbrev pub IsMemberRow : Asked → List MemberConfig → (member : ℕ) → Told → Served → Type 0
@@ -118,8 +118,8 @@ HasNamesWithin cfg (named.Status place) longest =
     (status : Status) → slice_get cfg.statuses place ≡ Some status → length status.name ≤ longest
 
 -- the row of this request, with room for each name that it may tell
-abbrev pub HasRoom : Config → Named → Head → Row → Type 0
-HasRoom cfg worker head row = (longest : ℕ) × IsRowOf head longest row × HasNamesWithin cfg worker longest
+abbrev pub HasRowRoom : Config → Named → Head → Row → Type 0
+HasRowRoom cfg worker head row = (longest : ℕ) × IsRowOf head longest row × HasNamesWithin cfg worker longest
 
 -- 404 was written whole, or a front of it, or memory was wanted
 abbrev pub IsNotFound : Visit → Head → Moment → Moment → Settled → Type 0

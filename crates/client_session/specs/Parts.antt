@@ -144,7 +144,7 @@ pub record IsRequestWhole (head : Head) (bytes : List ℕ) : Type 0 where
   pub whole : is_whole place ≡ true
 
 -- A request that isn't last, and its whole answer, with a moment of its own. It is the one after `number` others.
-pub record IsPart (v : Visit) (number : ℕ) (part : SessionPart) : Type 0 where
+pub record IsSessionPart (v : Visit) (number : ℕ) (part : SessionPart) : Type 0 where
   pub date : Option HttpDate
   pub told : IsTold v date
   pub head : Head
@@ -156,7 +156,7 @@ pub record IsPart (v : Visit) (number : ℕ) (part : SessionPart) : Type 0 where
 abbrev pub AreParts : Visit → (number : ℕ) → List SessionPart → Type 0
 AreParts v zero parts = parts ≡ []
 AreParts v (suc number) parts =
-    (before : List SessionPart) × (part : SessionPart) × AreParts v number before × IsPart v number part × (parts ≡ before ++ part ∷ [])
+    (before : List SessionPart) × (part : SessionPart) × AreParts v number before × IsSessionPart v number part × (parts ≡ before ++ part ∷ [])
 
 -- ---- the request that ended the session
 

@@ -85,7 +85,7 @@ pub record IsGoingOn (v : Visit) (number : ℕ) (s n : ClientStanding) (body : B
   pub more : is_last number request.head ≡ false
 
 -- Such a request, whose body was read to its end.
-pub record IsServed (v : Visit) (number : ℕ) (s n : ClientStanding) (rows : List Served) : Type 0 where
+pub record IsServedWhole (v : Visit) (number : ℕ) (s n : ClientStanding) (rows : List Served) : Type 0 where
   pub body : BodyIn
   pub mid : ClientStanding
   pub going_on : IsGoingOn v number s mid body rows
@@ -96,7 +96,7 @@ abbrev pub HaveServed : Visit → (number : ℕ) → ClientStanding → ClientSt
 HaveServed v zero s n rows = (n ≡ s) × (rows ≡ [])
 HaveServed v (suc number) s n rows =
     (mid : ClientStanding) × (before : List Served) × (last : List Served) × (date : Option HttpDate) × (timed : ClientStanding)
-    × HaveServed v number s mid before × ReadsMoment v mid timed date × IsServed (visit_at v date) number timed n last
+    × HaveServed v number s mid before × ReadsMoment v mid timed date × IsServedWhole (visit_at v date) number timed n last
     × (rows ≡ before ++ last)
 
 -- ---- the end
@@ -132,8 +132,8 @@ abbrev pub IsStopped : Visit → (number : ℕ) → (s n : ClientStanding) → L
 IsStopped v number s n rows stop' = (body : BodyIn) × IsRequest v number s n body (answered.Not stop') rows
 
 -- A request was answered whole, and the rest of its body was not read to its end for this reason.
-abbrev pub IsUnread : Visit → (number : ℕ) → (s n : ClientStanding) → List Served → BodyFault → Type 0
-IsUnread v number s n rows why = (body : BodyIn) × (mid : ClientStanding) × IsGoingOn v number s mid body rows × BreaksRest mid n body why
+abbrev pub LeavesBodyUnread : Visit → (number : ℕ) → (s n : ClientStanding) → List Served → BodyFault → Type 0
+LeavesBodyUnread v number s n rows why = (body : BodyIn) × (mid : ClientStanding) × IsGoingOn v number s mid body rows × BreaksRest mid n body why
 
 -- Why the session ended, after `number` requests that were served: what was done from there on, its rows, and how many
 -- requests had a complete reply or page. It ends idle only after a request, with nothing of the next one read.
@@ -152,21 +152,21 @@ EndsIn v number s n rows requests (stop.Closed (why.Refused refusal)) =
 EndsIn v number s n rows requests (stop.Closed why.Cut) =
     (requests ≡ number) × IsStopped v number s n rows (stop.Closed why.Cut)
 EndsIn v number s n rows requests (stop.Closed why.Unread) =
-    (requests ≡ number + 1) × (IsUnread v number s n rows fault.BadChunk ⊎ IsUnread v number s n rows fault.TooLong)
+    (requests ≡ number + 1) × (LeavesBodyUnread v number s n rows fault.BadChunk ⊎ LeavesBodyUnread v number s n rows fault.TooLong)
 EndsIn v number s n rows requests stop.ClientFault =
     ((requests ≡ number) × (rows ≡ []) × Rose s.client.faults n.client.faults
     × (FailsReading s n ⊎ (IsRefusalBegun v s n ⊎ IsStopped v number s n rows stop.ClientFault)))
-    ⊎ ((requests ≡ number + 1) × IsUnread v number s n rows fault.Fault)
+    ⊎ ((requests ≡ number + 1) × LeavesBodyUnread v number s n rows fault.Fault)
 EndsIn v number s n rows requests stop.Truncated =
     ((requests ≡ number) × (rows ≡ []) × (ReadsCut s n ⊎ IsStopped v number s n rows stop.Truncated))
-    ⊎ ((requests ≡ number + 1) × IsUnread v number s n rows fault.Truncated)
+    ⊎ ((requests ≡ number + 1) × LeavesBodyUnread v number s n rows fault.Truncated)
 EndsIn v number s n rows requests (stop.Stray ticket returned_at) =
     (requests ≡ number) × (rows ≡ []) × IsStopped v number s n rows (stop.Stray ticket returned_at)
 EndsIn v number s n rows requests stop.NoMemory =
     ((requests ≡ number) × (rows ≡ []) × (WantsReading s n
     ⊎ (IsRefusalWanted v s n ⊎ (((read : ClientStanding) × (form : Form) × ReadsRefused s read form × (n ≡ read))
     ⊎ IsStopped v number s n rows stop.NoMemory))))
-    ⊎ ((requests ≡ number + 1) × IsUnread v number s n rows fault.NoMemory)
+    ⊎ ((requests ≡ number + 1) × LeavesBodyUnread v number s n rows fault.NoMemory)
 
 -- ---- the whole
 

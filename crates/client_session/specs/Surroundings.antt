@@ -17,7 +17,7 @@ use Rattle.client_session.specs.Moments.{ReadsInTurn}
 use Rattle.client_session.specs.Requests.{Visit, kind_at, visit_at, visit_in}
 use Rattle.client_session.specs.Sessions.{ReadsHead}
 use Rattle.client_session.specs.Standings.{Puts, ClientStanding, standing}
-use Rattle.client_session.specs.Turns.{Turns}
+use Rattle.client_session.specs.Turns.{TurnsSession}
 use Rattle.client_session.specs.Writing.{WritesPart}
 use Rattle.client_session.specs.declared.ending.SessionStop.{SessionStop}
 use Rattle.client_session.specs.declared.ending.SessionStop.TheVariants as stop
@@ -45,16 +45,16 @@ AreSame s n =
     × (n.client.ghost_name ≡ s.client.ghost_name) × (n.inbox.ghost_name ≡ s.inbox.ghost_name)
 
 -- The request was answered so.
-abbrev pub IsAnswered : Inquiry → (s n : ClientStanding) → (body body' : BodyIn) → Settled → Type 0
-IsAnswered i s n body body' settled = IsAnswer (visit_in i) i.head.now i.last s n body body' settled.answered (rows_of settled.row)
+abbrev pub IsRequestAnswered : Inquiry → (s n : ClientStanding) → (body body' : BodyIn) → Settled → Type 0
+IsRequestAnswered i s n body body' settled = IsAnswer (visit_in i) i.head.now i.last s n body body' settled.answered (rows_of settled.row)
 
 -- It is mounted, and its client was told to go on.
 abbrev pub IsAnsweredAt : Inquiry → (s n : ClientStanding) → (body body' : BodyIn) → Settled → Type 0
 IsAnsweredAt i s n body body' settled = IsAnswerAt (visit_in i) i.head.now i.last s n body body' settled.answered (rows_of settled.row)
 
--- These rows were put where rows are put, which was so and is so now: `Gains W.gained rows.old rows.new`.
-abbrev pub Gains : {W : Type 0} → (W → List Served → W → Type 0) → (old new : W) → List Served → Type 0
-Gains gained old new = λ rows. gained old rows new
+-- These rows were put where rows are put, which was so and is so now: `PutsRows W.gained rows.old rows.new`.
+abbrev pub PutsRows : {W : Type 0} → (W → List Served → W → Type 0) → (old new : W) → List Served → Type 0
+PutsRows gained old new = λ rows. gained old rows new
 
 -- The request was answered by that status worker.
 abbrev pub Shows : Inquiry → Status → (s n : ClientStanding) → Result ℕ SessionStop → Type 0
@@ -73,7 +73,7 @@ SendsPage i status only d s n (Err stop') =
 -- The moment of a turn was read, and so the session turned.
 abbrev pub TurnsNow : Visit → (number : ℕ) → (s n : ClientStanding) → (puts : List Served → Type 0) → SessionTurn → Type 0
 TurnsNow v number s n puts turn' =
-    (date : Option HttpDate) × (timed : ClientStanding) × ReadsInTurn turn' v s timed date × Turns (visit_at v date) number timed n puts turn'
+    (date : Option HttpDate) × (timed : ClientStanding) × ReadsInTurn turn' v s timed date × TurnsSession (visit_at v date) number timed n puts turn'
 
 -- The turn of a request whose head was read, wherever its bytes began.
 abbrev pub TurnsFrom : Visit → (number : ℕ) → Head → (s n : ClientStanding) → (puts : List Served → Type 0) → SessionTurn → Type 0

@@ -6,7 +6,7 @@ use Rattle.http_front.specs.State.{failed_of}
 use Rattle.http_front.specs.declared.body.BodyIn.{BodyIn}
 use Rattle.client_session.specs.Ends.{MeetsBy, RisesBy}
 use Rattle.client_session.specs.Requests.{Visit}
-use Rattle.client_session.specs.Sessions.{EndsIn, IsServed}
+use Rattle.client_session.specs.Sessions.{EndsIn, IsServedWhole}
 use Rattle.client_session.specs.Standings.{ClientStanding}
 use Rattle.client_session.specs.declared.ending.SessionStop.{SessionStop}
 use Rattle.client_session.specs.declared.ending.SessionStop.TheVariants as stop
@@ -18,7 +18,7 @@ use Rattle.client_session.specs.declared.turn.SessionTurn.TheVariants as turn
 
 -- the next request is read, or the session ends after or at this one
 abbrev pub IsTurn : Visit → (number : ℕ) → (s n : ClientStanding) → List Served → SessionTurn → Type 0
-IsTurn v number s n rows turn.Next = IsServed v number s n rows
+IsTurn v number s n rows turn.Next = IsServedWhole v number s n rows
 IsTurn v number s n rows (turn.EndsAfter stop') = EndsIn v number s n rows (number + 1) stop'
 IsTurn v number s n rows (turn.EndsAt stop') = EndsIn v number s n rows number stop'
 
@@ -41,13 +41,13 @@ RisesInAnswer answered.Whole old new = new ≡ old
 RisesInAnswer (answered.Not stop') old new = RisesBy stop' old new
 
 -- after a whole answer no call on the body had failed
-abbrev pub GoesOn : Answered → BodyIn → Type 0
-GoesOn answered.Whole body = failed_of body ≡ None
-GoesOn (answered.Not stop') body = Unit {0}
+abbrev pub LeavesBodySound : Answered → BodyIn → Type 0
+LeavesBodySound answered.Whole body = failed_of body ≡ None
+LeavesBodySound (answered.Not stop') body = Unit {0}
 
 -- the turn, and the rows that it added at the end: of each list of rows it is said whether they were put
-abbrev pub Turns : Visit → (number : ℕ) → (s n : ClientStanding) → (puts : List Served → Type 0) → SessionTurn → Type 0
-Turns v number s n puts turn' = (added : List Served) × puts added × IsTurn v number s n added turn'
+abbrev pub TurnsSession : Visit → (number : ℕ) → (s n : ClientStanding) → (puts : List Served → Type 0) → SessionTurn → Type 0
+TurnsSession v number s n puts turn' = (added : List Served) × puts added × IsTurn v number s n added turn'
 
 -- The session doesn't end for a client that waits.
 abbrev pub IsBusyStop : SessionStop → Type 0

@@ -11,7 +11,7 @@ use Rattle.client_session.specs.Parts.{HasParts}
 use Rattle.client_session.specs.Keeping.{KeepsAround}
 use Rattle.httpdate.specs.declared.date.HttpDate.{HttpDate}
 use Rattle.client_session.specs.Requests.{Visit, visit_at}
-use Rattle.client_session.specs.Sessions.{InEachSession, IsServed, Serves}
+use Rattle.client_session.specs.Sessions.{InEachSession, IsServedWhole, Serves}
 use Rattle.client_session.specs.Standings.{ClientStanding}
 use Rattle.client_session.specs.Surroundings.{standing_with}
 use Rattle.client_session.specs.declared.ending.SessionEnd.{SessionEnd}
@@ -36,5 +36,5 @@ pub record HoldsOfEach (v : Visit) (end : SessionEnd) : Type 0 where
   pub own : InEachSession v end IsOwnCaused
   pub by_bytes : InEachSession v end IsDecided
   pub complete : InEachSession v end EndsWhole
-  pub served : (date : Option HttpDate) (number : ℕ) (s n : ClientStanding) (gained : List Served) → IsServed (visit_at v date) number s n gained
+  pub served : (date : Option HttpDate) (number : ℕ) (s n : ClientStanding) (gained : List Served) → IsServedWhole (visit_at v date) number s n gained
       → ServesWhole (visit_at v date) number s n

@@ -7,13 +7,13 @@ ghost use Rattle.site_mounts.specs.Sites.{is_worker};
 ghost use Rattle.site_config.specs.declared.config.Named.TheVariants as named_is;
 ghost use Rattle.exchange.specs.Requests.{errand_of};
 ghost use Rattle.client_session.specs.Answers.{errand_at};
-ghost use Rattle.client_session.specs.Concluding.{HasNamesWithin, HasRoom, IsKnownStop, IsNotFound};
+ghost use Rattle.client_session.specs.Concluding.{HasNamesWithin, HasRowRoom, IsKnownStop, IsNotFound};
 ghost use Rattle.client_session.specs.Keeping.{IsShown, TellsAnswer};
 ghost use Rattle.client_session.specs.Ready.{IsReady};
 ghost use Rattle.client_session.specs.Requests.{IsNewBody, continue_for, mounted_at, visit_in, visit_of};
 ghost use Rattle.client_session.specs.Standings.{Puts, client_at};
-ghost use Rattle.client_session.specs.Surroundings.{IsAnswered, IsAnsweredAt, standing_of};
-ghost use Rattle.client_session.specs.Turns.{GoesOn};
+ghost use Rattle.client_session.specs.Surroundings.{IsRequestAnswered, IsAnsweredAt, standing_of};
+ghost use Rattle.client_session.specs.Turns.{LeavesBodySound};
 ghost use Rattle.client_session.specs.Writing.{BreaksOff, WritesPart};
 
 use crate::concluding::{conclude, conclude_stop};
@@ -112,10 +112,10 @@ where
     requires mounted { mounted_at (visit_in of.now) of.now.head.now ≡ Some (named_is.Balancer lb) }
     requires worker { lb < length of.now.site.now.cfg.now.lbs }
     requires fresh { IsNewBody of.now.head.now.plan body.old }
-    requires room { HasRoom of.now.site.now.cfg.now (named_is.Balancer lb) of.now.head.now row }
+    requires room { HasRowRoom of.now.site.now.cfg.now (named_is.Balancer lb) of.now.head.now row }
     ensures answer { let at = standing_of B.state K.answers R.Meanings C.Meanings in
         IsAnsweredAt of.now (at around.old) (at around.new) body.old body.new result }
-    ensures going { GoesOn result.answered body.new }
+    ensures going { LeavesBodySound result.answered body.new }
     ensures told { TellsAnswer B.state R.Meanings C.Meanings (visit_of of.now.site.now) result.answered around.old around.new }
 {
     let request = request_at(of, lb);
@@ -164,7 +164,7 @@ where
     requires ready { IsReady (visit_of of.now.site.now) (B.state around.old.desk.now) (R.beside around.old.reach.now) }
     requires mounted { mounted_at (visit_in of.now) of.now.head.now ≡ Some (named_is.Status place) }
     requires worker { place < length of.now.site.now.cfg.now.statuses }
-    requires room { HasRoom of.now.site.now.cfg.now (named_is.Status place) of.now.head.now row }
+    requires room { HasRowRoom of.now.site.now.cfg.now (named_is.Status place) of.now.head.now row }
     ensures answer { (body : AnyBody) → let at = standing_of B.state K.answers R.Meanings C.Meanings in
         IsAnsweredAt of.now (at around.old) (at around.new) body body result }
     ensures told { TellsAnswer B.state R.Meanings C.Meanings (visit_of of.now.site.now) result.answered around.old around.new }
@@ -177,7 +177,7 @@ where
 /// A row of this request, with room for the longest name that it may tell.
 fn row_at(alloc: Global, cfg: &Config, worker: Named, head: &Head) -> Result<Row, NoMemory>
     requires { is_worker cfg.now worker ≡ true }
-    ensures { IfOk result (HasRoom cfg.now worker head.now) }
+    ensures { IfOk result (HasRowRoom cfg.now worker head.now) }
 {
     Row::of(alloc, head, longest_name(cfg, worker))
 }
@@ -191,7 +191,7 @@ fn begin<C: Sink>(
     client: &mut C,
 ) -> Result<Row, SessionStop>
     requires { is_worker cfg.now worker ≡ true }
-    ensures room { IfOk result (HasRoom cfg.now worker head.now) }
+    ensures room { IfOk result (HasRowRoom cfg.now worker head.now) }
     ensures told { IfOk result (λ row. Puts (client_at C.Meanings client.old) (client_at C.Meanings client.new) (continue_for head.now)) }
     ensures broken { IfErr result (BreaksOff (continue_for head.now) (client_at C.Meanings client.old) (client_at C.Meanings client.new)) }
     ensures beside { C.beside client.new ≡ C.beside client.old }
@@ -233,8 +233,8 @@ where
     requires ready { IsReady (visit_of of.now.site.now) (B.state around.old.desk.now) (R.beside around.old.reach.now) }
     requires fresh { IsNewBody of.now.head.now.plan body.old }
     ensures answer { let at = standing_of B.state K.answers R.Meanings C.Meanings in
-        IsAnswered of.now (at around.old) (at around.new) body.old body.new result }
-    ensures going { GoesOn result.answered body.new }
+        IsRequestAnswered of.now (at around.old) (at around.new) body.old body.new result }
+    ensures going { LeavesBodySound result.answered body.new }
     ensures told { TellsAnswer B.state R.Meanings C.Meanings (visit_of of.now.site.now) result.answered around.old around.new }
 {
     let Some(worker) = of.site.map.mount(of.head.clean.as_slice()) else {

@@ -1,7 +1,7 @@
 //! The end of an exchange, or a status worker's answer, as a turn of its session.
 ghost use Rattle.std.specs.Prelude.{◌≡◌, [], vec_capacity, IsSome};
 ghost use Rattle.http_out.specs.Own.{own_of};
-ghost use Rattle.client_session.specs.Concluding.{HoldsName, IsConclusion, IsKnownStop, IsMemberRow, IsWithin, cut_settled, own_settled, refused_settled, settled_by};
+ghost use Rattle.client_session.specs.Concluding.{HoldsName, IsConclusion, IsKnownStop, IsMemberRow, NamesWithin, cut_settled, own_settled, refused_settled, settled_by};
 
 use crate::ending::{SessionStop, Why};
 use crate::rows::Row;
@@ -38,7 +38,7 @@ pub(crate) fn conclude(
     head_only: bool,
     row: Row,
 ) -> Settled
-    requires within { IsWithin end members.now (vec_capacity row.name) }
+    requires within { NamesWithin end members.now (vec_capacity row.name) }
     requires unnamed { row.name.items ≡ [] }
     ensures { IsConclusion end members.now head_only row.asked result }
 {

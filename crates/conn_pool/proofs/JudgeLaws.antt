@@ -9,7 +9,7 @@ use Rattle.conn_pool.specs.declared.fate.Fate.{Fate}
 use Rattle.conn_pool.specs.declared.fate.Fate.TheVariants as fate
 use Rattle.conn_pool.specs.declared.idle.Idle.{Idle}
 use Rattle.conn_pool.specs.declared.report.WatchReport.{WatchReport}
-use Rattle.conn_pool.specs.Judging.{HasFate, HaveFates, IsBelow, IsJudged, counted, is_aged, is_dead, is_kept, is_wanted, kept_by, kept_of, report_of}
+use Rattle.conn_pool.specs.Judging.{HasFate, HaveFates, IsBelow, AreLookedAt, counted, is_aged, is_dead, is_kept, is_wanted, kept_by, kept_of, report_of}
 
 pub record Judging {L X : Type 0} (told : Ghosts L X) (limit : ℕ) (ping : Option ℕ) (links : List (Idle L)) (left : ℕ) (items : List (Idle L)) (report : WatchReport) : Type 0 where
   pub done : List (Idle L)
@@ -125,7 +125,7 @@ few-kept (fate.Wanted ∷ fates) = omega (arith, few-kept fates)
 few-kept (fate.Kept kept ∷ fates) = omega (arith, few-kept fates)
 
 pub ends : {L X : Type 0} (told : Ghosts L X) (limit : ℕ) (ping : Option ℕ) (links items : List (Idle L)) (left : ℕ) (report : WatchReport)
-    → Judging told limit ping links left items report → left ≡ 0 → IsJudged told limit ping links items report × (length items ≤ length links)
+    → Judging told limit ping links left items report → left ≡ 0 → AreLookedAt told limit ping links items report × (length items ≤ length links)
 ends told limit ping links items left report j none =
     let all : links ≡ j.done = j.whole ∙ (ap (λ (rest : List _). j.done ++ rest) (no_rest j.rest (sym j.many ∙ none)) ∙ append-nil j.done) in
     let those : items ≡ kept_of j.fates = j.those ∙ ap (λ (rest : List _). rest ++ kept_of j.fates) (no_rest j.rest (sym j.many ∙ none)) in (

@@ -24,7 +24,7 @@ pub record IsLinkOf {L : Type 0} (b : Begun) (lent : LentState L) : Type 0 where
   pub begins : (lent.began ≡ lent.link.faults) × (lent.faulty ≡ false)
 
 -- a talk began with b over such a link, and nothing was said in it; the talks that ended are these
-pub record Begins {L : Type 0} (b : Begun) (talks : Option (List Talk)) (now : TapeSight) (lent : Option (LentState L)) : Type 0 where
+pub record BeginsOnLink {L : Type 0} (b : Begun) (talks : Option (List Talk)) (now : TapeSight) (lent : Option (LentState L)) : Type 0 where
   pub link : IsSomeAnd lent (λ l. IsLinkOf b l)
   pub fresh : b.fresh ≡ true → b.dialled ≡ true
   pub begun : IfSome now.begun (λ begun. begun ≡ b)
@@ -42,5 +42,5 @@ talks_refused talk talks Io.Failed = appended talks (talk ∷ [])
 talks_refused talk talks Io.NoMemory = talks
 
 -- where a begin was refused its tape is quiet, and this talk is noted if it failed
-abbrev pub IsRefused : {A : Type 0} → Talk → Option (List Talk) → Result A IoError → TapeSight → Type 0
-IsRefused talk talks r now = IfErr r (λ e. IsQuiet (talks_refused talk talks e) now)
+abbrev pub IsRefusedBegin : {A : Type 0} → Talk → Option (List Talk) → Result A IoError → TapeSight → Type 0
+IsRefusedBegin talk talks r now = IfErr r (λ e. IsQuiet (talks_refused talk talks e) now)

@@ -13,16 +13,16 @@ abbrev pub at : {A X : Type 0} → Ghosts A X → A → Moment
 at told link = moment told.incoming told.received told.sent told.faults link
 
 -- a kept link answered, where it was pinged; else it was left alone
-abbrev pub Answers : Option ℕ → Moment → Moment → Type 0
-Answers None s n = n ≡ s
-Answers (Some millis) s n = AnswersPing s n
+abbrev pub AnsweredPing : Option ℕ → Moment → Moment → Type 0
+AnsweredPing None s n = n ≡ s
+AnsweredPing (Some millis) s n = AnswersPing s n
 
 -- a kept link is its member's as before, and has one look more
-pub record IsKept {L X : Type 0} (told : Ghosts L X) (limit : ℕ) (ping : Option ℕ) (idle kept : Idle L) : Type 0 where
+pub record IsKeptLink {L X : Type 0} (told : Ghosts L X) (limit : ℕ) (ping : Option ℕ) (idle kept : Idle L) : Type 0 where
   pub young : idle.looks < limit
   pub one_more : kept.looks ≡ idle.looks + 1
   pub whose : (kept.lb ≡ idle.lb) × (kept.member ≡ idle.member)
-  pub answers : Answers ping (at told idle.link.value) (at told kept.link.value)
+  pub answers : AnsweredPing ping (at told idle.link.value) (at told kept.link.value)
   pub same : told.beside kept.link.value ≡ told.beside idle.link.value
 
 -- a dead link was pinged, and didn't answer
@@ -42,7 +42,7 @@ abbrev pub HasFate : {L X : Type 0} → Ghosts L X → ℕ → Option ℕ → Id
 HasFate told limit ping idle fate.Aged = limit < idle.looks + 1
 HasFate told limit ping idle fate.Dead = IsDead told limit ping idle
 HasFate told limit ping idle fate.Wanted = IsWanted limit ping idle
-HasFate told limit ping idle (fate.Kept kept) = IsKept told limit ping idle kept
+HasFate told limit ping idle (fate.Kept kept) = IsKeptLink told limit ping idle kept
 
 -- each link has its fate
 abbrev pub HaveFates : {L X : Type 0} → Ghosts L X → ℕ → Option ℕ → List (Idle L) → List (Fate (Idle L)) → Type 0
@@ -102,7 +102,7 @@ pub record IsBelow (report : WatchReport) : Type 0 where
   pub kept : report.kept < 4294967295
 
 -- The links were looked at: those that are kept, in their order, and how many had which fate.
-pub record IsJudged {L X : Type 0} (told : Ghosts L X) (limit : ℕ) (ping : Option ℕ) (links kept : List (Idle L)) (report : WatchReport) : Type 0 where
+pub record AreLookedAt {L X : Type 0} (told : Ghosts L X) (limit : ℕ) (ping : Option ℕ) (links kept : List (Idle L)) (report : WatchReport) : Type 0 where
   pub fates : List (Fate (Idle L))
   pub each : HaveFates told limit ping links fates
   pub those : kept ≡ kept_of fates

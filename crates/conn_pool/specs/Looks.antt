@@ -6,7 +6,7 @@ use Rattle.site_config.specs.Limits.{each_pong_limit}
 use Rattle.conn_pool.specs.declared.watch.Watch.{Watch}
 
 -- so many seconds passed since the last looks
-pub record IsDue (watch : Watch) (now : ℕ) : Type 0 where
+pub record AreLooksDue (watch : Watch) (now : ℕ) : Type 0 where
   pub fits : watch.last + watch.every < 2 ^ 64
   pub passed : watch.last + watch.every ≤ now
 

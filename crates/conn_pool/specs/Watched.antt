@@ -1,7 +1,7 @@
 -- A pooled reach, and the watch over its idle links.
 use Rattle.std.specs.Prelude.{ℕ, ◌≡◌, Option, Some, None}
 use Rattle.conn_pool.specs.Reaches.{PooledState}
-use Rattle.conn_pool.specs.Looks.{IsDue}
+use Rattle.conn_pool.specs.Looks.{AreLooksDue}
 use Rattle.conn_pool.specs.declared.watch.Watch.{Watch}
 
 pub record WatchedState (D T L : Type 0) : Type 0 where
@@ -10,8 +10,8 @@ pub record WatchedState (D T L : Type 0) : Type 0 where
 
 -- If looks were due, they were now; else nothing changed.
 pub record LooksAt (before : Watch) (now : ℕ) (after : Watch) : Type 0 where
-  pub due : IsDue before now → after ≡ record before { last = now }
-  pub early : (IsDue before now → ⊥) → after ≡ before
+  pub due : AreLooksDue before now → after ≡ record before { last = now }
+  pub early : (AreLooksDue before now → ⊥) → after ≡ before
 
 -- So of a reach that has a watch.
 abbrev pub RestsAt : Option Watch → ℕ → Option Watch → Type 0

@@ -1,7 +1,7 @@
 //! Idle links are looked at, one after another.
 ghost use Rattle.std.specs.Prelude.{◌≡◌, ◌^◌, ◌<◌, ◌≤◌, ◌++◌, length};
 ghost use Rattle.std.specs.VecDeque.{deque_capacity, deque_len};
-ghost use Rattle.conn_pool.specs.Judging.{HasFate, IsBelow, IsJudged, counted, kept_by};
+ghost use Rattle.conn_pool.specs.Judging.{HasFate, IsBelow, AreLookedAt, counted, kept_by};
 
 use crate::fate::Fate;
 use crate::ping::{Pinged, ping};
@@ -57,7 +57,7 @@ pub fn judge<L: Link + Drop>(
     ping: Option<u64>,
 ) -> (LinkList<Idle<L>>, WatchReport)
     requires { length links < 2 ^ 32 }
-    ensures judged { IsJudged L.Meanings limit ping links result.0 result.1 }
+    ensures judged { AreLookedAt L.Meanings limit ping links result.0 result.1 }
     ensures few { length result.0 ≤ length links }
 {
     let mut report = WatchReport::none();

@@ -1,7 +1,7 @@
 //! The watch over all pools of a site.
 ghost use Rattle.std.specs.Prelude.{◌≡◌, ◌<◌, ◌^◌, length, IfOk, IsSome, IsTrue, Ok, None, ◌↔◌, slice_index};
 ghost use Rattle.conn_pool.specs.Idle.{counts, HasMember};
-ghost use Rattle.conn_pool.specs.Looks.{IsDue, ends_of};
+ghost use Rattle.conn_pool.specs.Looks.{AreLooksDue, ends_of};
 
 use crate::judging::judge;
 use crate::member_look::{limit_of, ping_of};
@@ -33,7 +33,7 @@ struct Looked<'a, 'p, 'r, L, R> {
 }
 
 fn is_due(watch: &Watch, now: u64) -> bool
-    ensures { IsTrue result ↔ IsDue watch.now now }
+    ensures { IsTrue result ↔ AreLooksDue watch.now now }
 {
     match watch.last.checked_add(watch.every) {
         Some(next) => next <= now,
@@ -108,9 +108,9 @@ pub fn watch_if_due<L: Link + Drop, R: Wait>(
 ) -> Result<Option<WatchReport>, NoMemory>
     requires every { 0 < watch.old.every }
     requires sizes { counts pools.now ≡ ends_of cfg.now.lbs }
-    ensures due { IfOk result (λ report. IsSome report ↔ IsDue watch.old now) }
-    ensures looked { IsDue watch.old now → watch.new ≡ record watch.old { last = now } }
-    ensures not_due { (IsDue watch.old now → ⊥) → (result ≡ Ok None) × (watch.new ≡ watch.old) }
+    ensures due { IfOk result (λ report. IsSome report ↔ AreLooksDue watch.old now) }
+    ensures looked { AreLooksDue watch.old now → watch.new ≡ record watch.old { last = now } }
+    ensures not_due { (AreLooksDue watch.old now → ⊥) → (result ≡ Ok None) × (watch.new ≡ watch.old) }
 {
     if !is_due(watch, now) {
         return Ok(None);

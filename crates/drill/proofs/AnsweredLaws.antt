@@ -4,11 +4,11 @@ use Rattle.std.proofs.lemmas.Bool.{eq-eqb}
 use Rattle.std.proofs.lemmas.List.Elements.{filter-append}
 use Rattle.lb_model.specs.declared.journal.Answer.TheVariants as answer
 use Rattle.lb_model.specs.declared.journal.Entry.{Entry}
-use Rattle.drill.specs.Drills.{AreAnswered, Chose, GaveBack, IsAnswered, entries_of}
+use Rattle.drill.specs.Drills.{AreAnswered, Chose, GaveBack, IsAnsweredWhole, entries_of}
 use Rattle.drill.specs.Progress.{IsSoFar}
 
 -- one more request was answered
-grown : (k : ℕ) (xs : List Entry) (s r : Entry) → AreAnswered k xs → IsAnswered s r → AreAnswered (suc k) (xs ++ s ∷ r ∷ [])
+grown : (k : ℕ) (xs : List Entry) (s r : Entry) → AreAnswered k xs → IsAnsweredWhole s r → AreAnswered (suc k) (xs ++ s ∷ r ∷ [])
 grown zero [] s r all one = (one, tt)
 grown zero (x ∷ xs) s r all one = absurd all
 grown (suc k) [] s r all one = absurd all

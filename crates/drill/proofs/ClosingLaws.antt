@@ -14,7 +14,7 @@ use Rattle.lb_closing.specs.Closings.{Differs}
 use Rattle.lb_closing.specs.declared.close.CloseError.{CloseError}
 use Rattle.lb_closing.specs.declared.close.CloseError.TheVariants as close
 use Rattle.lb_model.specs.declared.journal.Entry.{Entry}
-use Rattle.drill.specs.Ends.{IsFound, IsOfDrill, IsStarted}
+use Rattle.drill.specs.Ends.{IsDiscordFound, IsOfDrill, IsStarted}
 use Rattle.drill.specs.Sites.{IsDrillBook}
 use Rattle.lb_model.specs.declared.config.LbConfig.{LbConfig}
 
@@ -42,7 +42,7 @@ drill_books books (Err e) sizes firsts sized first s = (tt, tt)
 
 -- a discord over such a Site is a drill's
 pub drill_found : {L : Type 0} (e : CloseError L) (sizes firsts : List ℕ) (entries : ℕ) (receipts : List (ℕ × Entry)) → sizes ≡ 2 ∷ [] → firsts ≡ 0 ∷ []
-    → IsCloseError (Differs sizes firsts entries receipts) e → IsCloseError IsFound e
+    → IsCloseError (Differs sizes firsts entries receipts) e → IsCloseError IsDiscordFound e
 drill_found (close.Differs d) sizes firsts entries receipts sized first differs = (entries, receipts, rw (← sized, ← first) differs)
 drill_found close.NoMemory sizes firsts entries receipts sized first differs = tt
 

@@ -5,7 +5,7 @@ use Rattle.jk_io.specs.Told.{appended, prepended}
 use Rattle.ajp_container.specs.Answer.{bytes_of}
 use Rattle.ajp_container.specs.Turns.{ContainerTurn, Turns, owed}
 use Rattle.ajp_container.specs.declared.app_config.AppConfig.{AppConfig}
-use Rattle.drill.specs.Meeting.{GoesOn}
+use Rattle.drill.specs.Meeting.{GoesOnAsNew}
 
 -- Turns in two parts, each with what came and what was sent.
 record TwoParts (app : AppConfig) (later earlier : List ContainerTurn) (came sent : List ℕ) : Type 0 where
@@ -50,7 +50,7 @@ appended_twice : (told : Option (List ℕ)) (a b : List ℕ) → appended told (
 appended_twice None a b = refl
 appended_twice (Some bytes) a b = ap Some (sym (append_assoc bytes a b))
 
-pub goes_on_after : GoesOn
+pub goes_on_after : GoesOnAsNew
 goes_on_after app start after end talk earlier later split = record {
   came = two.came_first;
   sent = two.sent_first;

@@ -1,7 +1,7 @@
 -- The drill's site is in range, and its map is read.
 use Rattle.std.proofs.Common.{◌≡◌, ℕ, zero, suc, ◌<◌, ◌≤◌, List, slice_get, Some, refl, subst, arith}
 use Rattle.lb_model.specs.Multiple.{divisor_by, multiple_of, multiple_of_two}
-use Rattle.lb_model.specs.Ranges.{IsInRange, IsPeriod, IsRefused, factors_in}
+use Rattle.lb_model.specs.Ranges.{IsInRange, IsPeriod, IsRefusedConfig, factors_in}
 use Rattle.lb_model.specs.declared.config_error.ConfigError.{ConfigError}
 use Rattle.lb_model.specs.declared.config_error.ConfigError.TheVariants as Refusal
 use Rattle.lb_model.specs.declared.member.MemberConfig.{MemberConfig}
@@ -26,10 +26,10 @@ minute : IsPeriod 60
 minute = record { above = omega arith; below = omega arith }
 
 -- the drill's balancer is refused for nothing
-pub not_refused : (ms : List MemberConfig) (e : ConfigError) → ms ≡ two_members → IsRefused 60 60 ms e → ⊥
-not_refused ms e same refused = of e (subst (λ (l : List MemberConfig). IsRefused 60 60 l e) same refused)
+pub not_refused : (ms : List MemberConfig) (e : ConfigError) → ms ≡ two_members → IsRefusedConfig 60 60 ms e → ⊥
+not_refused ms e same refused = of e (subst (λ (l : List MemberConfig). IsRefusedConfig 60 60 l e) same refused)
   where
-    of : (e : ConfigError) → IsRefused 60 60 two_members e → ⊥
+    of : (e : ConfigError) → IsRefusedConfig 60 60 two_members e → ⊥
     of Refusal.NoMembers r = omega (arith, r)
     of Refusal.TooMany r = omega (arith, r)
     of (Refusal.BadMember index) (count, first) = bad index first.within first.bad

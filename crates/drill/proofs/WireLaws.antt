@@ -9,7 +9,7 @@ use Rattle.ajp_container.specs.declared.ends.Stopped.{Stopped}
 use Rattle.ajp_container.specs.Answer.{bytes_of}
 use Rattle.ajp_container.specs.Ends.{IsTalk, TurnPlace, Stops, place_of}
 use Rattle.ajp_container.specs.Turns.{is_dropped, owed, waits}
-use Rattle.drill.specs.Wires.{Answers, WireState, end_at, wire}
+use Rattle.drill.specs.Wires.{ApplicationAnswers, WireState, end_at, wire}
 
 record Appends (before after : Option (List ℕ)) : Type 0 where
   more : List ℕ
@@ -37,14 +37,14 @@ talk-appends app w after end answered t is =
     (t.sent ++ last.more, some-is answered (w.answered ++ (t.sent ++ last.more)) same)
 
 -- one more run
-pub answers-more : (app : AppConfig) (w : WireState) (after : Moment) (end : ContainerEnd) (answered : List ℕ) → Answers app w.done w.answered
-    → IsTalk app (end_at w) after end → after.sent ≡ Some answered → Answers app (w.done ++ w.coming) answered
+pub answers-more : (app : AppConfig) (w : WireState) (after : Moment) (end : ContainerEnd) (answered : List ℕ) → ApplicationAnswers app w.done w.answered
+    → IsTalk app (end_at w) after end → after.sent ≡ Some answered → ApplicationAnswers app (w.done ++ w.coming) answered
 answers-more app w after end answered (runs, run) t is = (w.coming ∷ runs, (w.done, w.answered, after, end, run, t, refl, is))
 
 -- so the link's fact stands after a run
-pub run_more : (app : AppConfig) (w after now : WireState) (end : ContainerEnd) (given : ℕ) → given ≤ length w.answered → Answers app w.done w.answered
+pub run_more : (app : AppConfig) (w after now : WireState) (end : ContainerEnd) (given : ℕ) → given ≤ length w.answered → ApplicationAnswers app w.done w.answered
     → IsTalk app (end_at w) (end_at after) end → after.done ++ after.coming ≡ w.done ++ w.coming
-    → now ≡ wire (after.done ++ after.coming) [] after.answered → (given ≤ length now.answered) × Answers app now.done now.answered
+    → now ≡ wire (after.done ++ after.coming) [] after.answered → (given ≤ length now.answered) × ApplicationAnswers app now.done now.answered
 run_more app w after now end given within so t same is =
     let grown = talk-appends app w (end_at after) end after.answered t refl in
     let longer : length after.answered ≡ length (w.answered ++ grown.0) = ap length grown.1 in
@@ -52,5 +52,5 @@ run_more app w after now end given within so t same is =
     let answered : length now.answered ≡ length after.answered = ap (λ (x : WireState). length x.answered) is in
     let all = answers-more app w (end_at after) end after.answered so t refl in (
       omega (arith, within, longer, joined, answered),
-      subst (λ (x : WireState). Answers app x.done x.answered) (sym is) (subst (λ (d : List ℕ). Answers app d after.answered) (sym same) all),
+      subst (λ (x : WireState). ApplicationAnswers app x.done x.answered) (sym is) (subst (λ (d : List ℕ). ApplicationAnswers app d after.answered) (sym same) all),
     )

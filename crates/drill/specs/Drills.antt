@@ -25,7 +25,7 @@ pub record GaveBack (ticket : ℕ) (e : Entry) : Type 0 where
   pub done : outcome.kind ≡ kind.Done
 
 -- A request was answered whole: its Select chose, and its ticket came back Done.
-pub record IsAnswered (select back : Entry) : Type 0 where
+pub record IsAnsweredWhole (select back : Entry) : Type 0 where
   pub ticket : ℕ
   pub chose : Chose ticket select
   pub gave_back : GaveBack ticket back
@@ -36,7 +36,7 @@ AreAnswered zero [] = Unit {0}
 AreAnswered zero (e ∷ entries) = ⊥
 AreAnswered (suc n) [] = ⊥
 AreAnswered (suc n) (select ∷ []) = ⊥
-AreAnswered (suc n) (select ∷ back ∷ entries) = IsAnswered select back × AreAnswered n entries
+AreAnswered (suc n) (select ∷ back ∷ entries) = IsAnsweredWhole select back × AreAnswered n entries
 
 -- the entries of a thread's calls, in order; each thread is a session of its own number
 abbrev pub entries_of : (t : ℕ) → List Entry → List Entry

@@ -42,8 +42,8 @@ pub record IsDrill (seed threads requests : ℕ) (text passes : Bool) (told : Li
   pub book : IsOfDrill b
 
 -- Receipts of threads, in their order, and the entries that such a Book keeps, differ here first.
-abbrev pub IsFound : DiscordNote → Type 0
-IsFound d = (entries : ℕ) × (receipts : List (ℕ × Entry)) × Differs (2 ∷ []) (0 ∷ []) entries receipts d
+abbrev pub IsDiscordFound : DiscordNote → Type 0
+IsDiscordFound d = (entries : ℕ) × (receipts : List (ℕ × Entry)) × Differs (2 ∷ []) (0 ∷ []) entries receipts d
 
 -- How many receipts are compared with a journal: one of each entry. Over passes there are none.
 abbrev pub receipts_of : (passes : Bool) → List Entry → ℕ
@@ -53,7 +53,7 @@ receipts_of passes h = if passes then 0 else length h
 -- some thread, or an entry that it added; bodies in the rows of all sessions that had these bytes together, and not those that
 -- were asked for; or want of memory, which needs no cause.
 abbrev pub IsDrillError : (seed threads requests : ℕ) → DrillError → Type 0
-IsDrillError seed threads requests (error.Differs d) = IsFound d
+IsDrillError seed threads requests (error.Differs d) = IsDiscordFound d
 IsDrillError seed threads requests (error.Lost book) = IsOfDrill book × (IsDrilled threads requests book.entries → ⊥)
 IsDrillError seed threads requests (error.Cut book) = IsOfDrill book × (length book.entries ≡ book.added → ⊥)
 IsDrillError seed threads requests (error.Bodies bytes) =

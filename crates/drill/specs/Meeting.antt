@@ -12,7 +12,7 @@ use Rattle.http_front.specs.Places.{start_of}
 use Rattle.http_out.specs.declared.framing.RequestKind.{RequestKind}
 use Rattle.site_config.specs.declared.endpoint.Endpoint.{Endpoint}
 use Rattle.ajp_request.specs.Spelling.{SpellsForward}
-use Rattle.ajp_request.specs.Writing.{Fits, payload_of}
+use Rattle.ajp_request.specs.Writing.{FitsForward, payload_of}
 use Rattle.ajp_request.specs.declared.forward.Forward.{Forward}
 use Rattle.ajp_reply.specs.Stream.{head_of}
 use Rattle.ajp_reply.specs.declared.message.Message.{Message}
@@ -53,9 +53,9 @@ front_of q = first_len q.head.plan q.balancer.ends
 
 -- A request before a talk: it fits the member's packet, and just the first piece of its data was taken. So it is before
 -- each talk of an exchange: a request that doesn't fit has none, and after a talk that took more there is no other.
-pub record IsReady (q : Errand) (member : MemberConfig) (endpoint : Endpoint) (own : Data) (first : List ℕ) (b : BodyAt) : Type 0 where
+pub record IsReadyForTalk (q : Errand) (member : MemberConfig) (endpoint : Endpoint) (own : Data) (first : List ℕ) (b : BodyAt) : Type 0 where
   pub request : IsRequest q.head own
-  pub fits : Fits endpoint.packet (forwarded q member endpoint)
+  pub fits : FitsForward endpoint.packet (forwarded q member endpoint)
   pub first_is : first ≡ take (front_of q) own.bytes
   pub left : data_at b ≡ dropped (front_of q) (Some own)
 
@@ -91,7 +91,7 @@ pub record IsDoneWith (app : AppConfig) (q : Errand) (member : MemberConfig) (en
   pub after : Moment
   pub end : ContainerEnd
   pub size : endpoint.packet ≡ app.packet
-  pub ready : IsReady q member endpoint own first s.body
+  pub ready : IsReadyForTalk q member endpoint own first s.body
   pub connector : IsDone (plan_on q first member endpoint dialled) s n told reuse bytes
   pub container : IsTalk app before after end
   pub meet : Meet s.line n.line before after
@@ -125,7 +125,7 @@ pub record IsExchangeWith (app : AppConfig) (q : Errand) (member : ℕ) (own : D
   pub request : IsRequest q.head own
   pub there : data_at s.body ≡ Some own
   pub size : last.endpoint.packet ≡ app.packet
-  pub fits : Fits last.endpoint.packet (forwarded q last.config last.endpoint)
+  pub fits : FitsForward last.endpoint.packet (forwarded q last.config last.endpoint)
   pub container : IsTalk app before after end
   pub meet : Meet last.talk.opened last.talk.closed before after
   pub spelled : SpellsForward f (payload_of (forwarded q last.config last.endpoint))
@@ -149,7 +149,7 @@ pub record GoesOnAfter (app : AppConfig) (earlier later : List ContainerTurn) (s
 
 -- A container that has answered any number of requests on a link serves the next one as if the link were new: each of its
 -- talks is one from each of its turns on.
-abbrev pub GoesOn : Type 0
-GoesOn =
+abbrev pub GoesOnAsNew : Type 0
+GoesOnAsNew =
     (app : AppConfig) (start after : Moment) (end : ContainerEnd) (talk : IsTalk app start after end) (earlier later : List ContainerTurn)
     → talk.past ≡ later ++ earlier → GoesOnAfter app earlier later start after talk.stop

@@ -4,7 +4,7 @@ use Rattle.lb_book.specs.Desks.{DeskState}
 
 -- A desk with one part of the ledger, over balancers of these sizes, that holds no ticket and has a receipt of each entry
 -- that it added.
-pub record IsWhole (sizes : List ℕ) (desk : DeskState) : Type 0 where
+pub record IsWholeDesk (sizes : List ℕ) (desk : DeskState) : Type 0 where
   pub none_held : desk.held ≡ []
   pub one_part : desk.parts ≡ Some 1
   pub counted : desk.added ≡ length desk.receipts

@@ -22,15 +22,15 @@ wire done coming answered = record { done = done; coming = coming; answered = an
 
 -- The application answered so: in runs, the newest first, each of which serves the bytes that were written since the one
 -- before it, and then is done with them.
-abbrev pub HasRun : AppConfig → (runs : List (List ℕ)) → (asked answered : List ℕ) → Type 0
-HasRun app [] asked answered = (asked ≡ []) × (answered ≡ [])
-HasRun app (run ∷ past) asked answered =
-    (done : List ℕ) × (before : List ℕ) × (after : Moment) × (end : ContainerEnd) × HasRun app past done before
+abbrev pub HasRunApplication : AppConfig → (runs : List (List ℕ)) → (asked answered : List ℕ) → Type 0
+HasRunApplication app [] asked answered = (asked ≡ []) × (answered ≡ [])
+HasRunApplication app (run ∷ past) asked answered =
+    (done : List ℕ) × (before : List ℕ) × (after : Moment) × (end : ContainerEnd) × HasRunApplication app past done before
     × IsTalk app (end_at (wire done run before)) after end × (asked ≡ done ++ run) × (after.sent ≡ Some answered)
 
 -- This is what the application sent for these bytes.
-abbrev pub Answers : AppConfig → (asked answered : List ℕ) → Type 0
-Answers app asked answered = (runs : List (List ℕ)) × HasRun app runs asked answered
+abbrev pub ApplicationAnswers : AppConfig → (asked answered : List ℕ) → Type 0
+ApplicationAnswers app asked answered = (runs : List (List ℕ)) × HasRunApplication app runs asked answered
 
 -- The connector's end: what it wrote, of which the application didn't serve the last bytes yet, what it read, and what was
 -- answered and not yet read.

@@ -21,7 +21,7 @@ pub struct AppLink<'a> {
 
 impl<'a> Model for AppLink<'a> {
     ghost use Rattle.std.specs.Prelude.{◌≤◌, ◌++◌, length, take, drop};
-    ghost use Rattle.drill.specs.Wires.{Answers, AppLinkState};
+    ghost use Rattle.drill.specs.Wires.{ApplicationAnswers, AppLinkState};
 
     ghost Value = { AppLinkState };
 
@@ -32,7 +32,7 @@ impl<'a> Model for AppLink<'a> {
       unread = drop l.given l.wire.answered;
     } };
 
-    ghost invariant = { λ l. (l.given ≤ length l.wire.answered) × Answers l.app.now l.wire.done l.wire.answered };
+    ghost invariant = { λ l. (l.given ≤ length l.wire.answered) × ApplicationAnswers l.app.now l.wire.done l.wire.answered };
 }
 
 impl<'a> AppLink<'a> {

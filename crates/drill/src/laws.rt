@@ -1,7 +1,7 @@
 //! Laws of a talk's two ends: consequences of the definitions alone, whatever the calls do.
 ghost use Rattle.drill.specs.FirstGet.{FirstGet};
 ghost use Rattle.drill.specs.FirstPost.{FirstPost};
-ghost use Rattle.drill.specs.Meeting.{EndToEnd, EndToEndOfExchange, GoesOn};
+ghost use Rattle.drill.specs.Meeting.{EndToEnd, EndToEndOfExchange, GoesOnAsNew};
 
 /// End to end: where a done talk received what the container sends for what the talk sent, the client has as its reply
 /// the application's answer to the request, with the request's own data, whatever went over the link before it. Connector
@@ -17,7 +17,7 @@ pub fn an_exchange_gives_the_applications_answer()
 
 /// A container that has answered any number of requests on a link serves the next one as if the link were new.
 pub fn a_container_goes_on_after_each_turn()
-    ensures { GoesOn }
+    ensures { GoesOnAsNew }
 {}
 
 /// The first law has instances: a GET of `/`, for which the container has no application, on each link, with CPing before it

@@ -10,7 +10,7 @@ ghost use Rattle.lb_closing.specs.CloseErrors.{IsCloseError};
 ghost use Rattle.drill.specs.Counts.{CountsDrill};
 ghost use Rattle.drill.specs.Drills.{IsDrilled};
 ghost use Rattle.lb_closing.specs.Closings.{AreUncut, kept_from, noted};
-ghost use Rattle.drill.specs.Ends.{IsDrillError, IsFound, IsOfDrill, IsStarted, receipts_of};
+ghost use Rattle.drill.specs.Ends.{IsDrillError, IsDiscordFound, IsOfDrill, IsStarted, receipts_of};
 ghost use Rattle.drill.specs.Requests.{bodies_of};
 ghost use Rattle.journal_text.specs.SegmentText.{segment_text};
 ghost use Rattle.drill.specs.Summaries.{IsJournalText, summary_text};
@@ -86,7 +86,7 @@ fn drill_in<L: SiteName + Send + Sync, R: Threads + Wait + Sync>(
     ensures books { IfOk result (λ c. All IsOfDrill c.books) }
     ensures counted { IfOk result (λ c. CountsDrill plan.seed plan.threads plan.requests c.bodies) }
     ensures receipts { IfOk result (λ c. c.receipts ≡ added_in c.books) }
-    ensures cause { IfErr result (IsCloseError IsFound) }
+    ensures cause { IfErr result (IsCloseError IsDiscordFound) }
 {
     let (opened, share) = Site::<L>::open(blank, books);
     let shared = SharedSite::new(rt, alloc, opened, 0)?;
@@ -109,7 +109,7 @@ fn drill_over<'r, L: SiteName + Send + Sync, R: Threads + Wait + Sync>(
     ensures sited { IfOk result (λ c. AreSited L.sizes L.firsts c.books) }
     ensures counted { IfOk result (λ c. CountsDrill plan.seed plan.threads plan.requests c.bodies) }
     ensures receipts { IfOk result (λ c. c.receipts ≡ added_in c.books) }
-    ensures cause { IfErr result (IsCloseError IsFound) }
+    ensures cause { IfErr result (IsCloseError IsDiscordFound) }
 {
     let left = serve_all(rt, alloc, site, plan, &shared, share)?;
     close_books(shared, left)
@@ -131,7 +131,7 @@ fn close_books<'r, L: SiteName, R: Wait>(
     ensures bodies { IfOk result (λ c. c.bodies ≡ left.bodies) }
     ensures counted { IfOk result (λ c. c.receipts ≡ sum_by (λ l. length l.receipts) left.leaving) }
     ensures receipts { IfOk result (λ c. c.receipts ≡ added_in c.books) }
-    ensures cause { IfErr result (IsCloseError IsFound) }
+    ensures cause { IfErr result (IsCloseError IsDiscordFound) }
 {
     let ThreadsLeft { leaving, bodies } = left;
     let Closed { books, entries, .. } = close_desks(shared, leaving)?;

@@ -3,7 +3,7 @@ ghost use Rattle.std.specs.Prelude.{◌≡◌, ◌+◌, ◌<◌, ◌≤◌, ℕ,
 ghost use Rattle.std.specs.List.{All};
 ghost use Rattle.drill.specs.Bodies.{all_together};
 ghost use Rattle.drill.specs.Counts.{AreMade, CountsDrill, IsMadeBy};
-ghost use Rattle.drill.specs.Threads.{IsWhole};
+ghost use Rattle.drill.specs.Threads.{IsWholeDesk};
 
 use crate::body_sum::together;
 use crate::plan::{MAX_THREADS, Plan};
@@ -40,7 +40,7 @@ fn slot_of<'s, 'r, L: SiteName, R>(
     requires part { share.parts ≡ 1 }
     requires amount { share.amount ≡ 0 }
     requires sizes { L.sizes ≡ 2 ∷ [] }
-    ensures { IsWhole (2 ∷ []) result.desk.desk }
+    ensures { IsWholeDesk (2 ∷ []) result.desk.desk }
 {
     let shelf = MemShelf::new(KeptList::new(alloc), NumberList::new(alloc));
     Slot {
@@ -60,8 +60,8 @@ fn put_slot<'s, 'r, L: SiteName, R>(
     requires amount { share.amount ≡ 0 }
     requires sizes { L.sizes ≡ 2 ∷ [] }
     requires room { vec_len slots.old < vec_capacity slots.old }
-    ensures whole { All (λ s. IsWhole (2 ∷ []) s.desk.desk) slots.old.items
-        → All (λ s. IsWhole (2 ∷ []) s.desk.desk) slots.new.items }
+    ensures whole { All (λ s. IsWholeDesk (2 ∷ []) s.desk.desk) slots.old.items
+        → All (λ s. IsWholeDesk (2 ∷ []) s.desk.desk) slots.new.items }
     ensures len { vec_len slots.new ≡ vec_len slots.old + 1 }
     ensures capacity { vec_capacity slots.new ≡ vec_capacity slots.old }
 {
@@ -81,7 +81,7 @@ fn fill_slots<'s, 'r, L: SiteName, R>(
     requires parts { share.old.parts ≡ threads }
     requires amount { share.old.amount ≡ 0 }
     requires sizes { L.sizes ≡ 2 ∷ [] }
-    ensures whole { All (λ s. IsWhole (2 ∷ []) s.desk.desk) slots.new.items }
+    ensures whole { All (λ s. IsWholeDesk (2 ∷ []) s.desk.desk) slots.new.items }
     ensures count { vec_len slots.new ≡ threads }
 {
     'slots: for _ in 0..threads {
@@ -99,7 +99,7 @@ fn slots_for<'s, 'r, L: SiteName, R>(
     requires parts { share.parts ≡ threads }
     requires amount { share.amount ≡ 0 }
     requires sizes { L.sizes ≡ 2 ∷ [] }
-    ensures whole { IfOk result (λ slots. All (λ s. IsWhole (2 ∷ []) s.desk.desk) slots.items) }
+    ensures whole { IfOk result (λ slots. All (λ s. IsWholeDesk (2 ∷ []) s.desk.desk) slots.items) }
     ensures count { IfOk result (λ slots. vec_len slots ≡ threads) }
 {
     let mut share = share;
@@ -117,8 +117,8 @@ fn serve_slot<L: SiteName, R: Wait>(
     slot: &mut Slot<'_, '_, L, R>,
 )
     requires few { number < MAX_THREADS }
-    requires whole { IsWhole (2 ∷ []) slot.old.desk.desk }
-    ensures whole { IsWhole (2 ∷ []) slot.new.desk.desk }
+    requires whole { IsWholeDesk (2 ∷ []) slot.old.desk.desk }
+    ensures whole { IsWholeDesk (2 ∷ []) slot.new.desk.desk }
     ensures made { IsMadeBy site.now plan number slot.new.made }
 {
     let served = serve_thread(alloc, site, plan, number as u32, &mut slot.desk);
@@ -134,8 +134,8 @@ fn serve_slots<'s, 'r, L: SiteName + Send + Sync, R: Threads + Wait + Sync>(
     slots: &mut [Slot<'s, 'r, L, R>],
 )
     requires few { length slots.old ≤ MAX_THREADS }
-    requires whole { All (λ s. IsWhole (2 ∷ []) s.desk.desk) slots.old }
-    ensures whole { (i : ℕ) (d : _) → i < length slots.old → IsWhole (2 ∷ []) (slice_index_or slots.new i d).desk.desk }
+    requires whole { All (λ s. IsWholeDesk (2 ∷ []) s.desk.desk) slots.old }
+    ensures whole { (i : ℕ) (d : _) → i < length slots.old → IsWholeDesk (2 ∷ []) (slice_index_or slots.new i d).desk.desk }
     ensures made { (i : ℕ) (d : _) → i < length slots.old → IsMadeBy site.now plan i (slice_index_or slots.new i d).made }
     ensures len { length slots.new ≡ length slots.old }
 {
@@ -146,8 +146,8 @@ fn serve_slots<'s, 'r, L: SiteName + Send + Sync, R: Threads + Wait + Sync>(
         count,
         &|number: usize, slot: &mut Slot<L, R>|
             requires few { number < MAX_THREADS }
-            requires whole { IsWhole (2 ∷ []) slot.old.desk.desk }
-            ensures { IsWhole (2 ∷ []) slot.new.desk.desk × IsMadeBy site.entry.now plan number slot.new.made }
+            requires whole { IsWholeDesk (2 ∷ []) slot.old.desk.desk }
+            ensures { IsWholeDesk (2 ∷ []) slot.new.desk.desk × IsMadeBy site.entry.now plan number slot.new.made }
         {
             serve_slot(alloc, site, plan, number, slot);
         },
@@ -159,7 +159,7 @@ fn empty_slots<'s, 'r, L: SiteName, R>(
     slots: Vec<Slot<'s, 'r, L, R>>,
     leaving: &mut Vec<Leaving<L, MemShelf>>,
 ) -> Option<u64>
-    requires whole { All (λ s. IsWhole (2 ∷ []) s.desk.desk) slots.items }
+    requires whole { All (λ s. IsWholeDesk (2 ∷ []) s.desk.desk) slots.items }
     requires none { leaving.old.items ≡ [] }
     requires room { vec_len slots ≤ vec_capacity leaving.old }
     ensures parts { sum_by (λ l. l.share.parts) leaving.new.items ≡ vec_len slots.entry }
@@ -181,7 +181,7 @@ fn left_in<'s, 'r, L: SiteName, R>(
     slots: Vec<Slot<'s, 'r, L, R>>,
     leaving: Vec<Leaving<L, MemShelf>>,
 ) -> Result<ThreadsLeft<L>, NoMemory>
-    requires whole { All (λ s. IsWhole (2 ∷ []) s.desk.desk) slots.items }
+    requires whole { All (λ s. IsWholeDesk (2 ∷ []) s.desk.desk) slots.items }
     requires none { leaving.items ≡ [] }
     requires room { vec_len slots ≤ vec_capacity leaving }
     ensures parts { IfOk result (λ left. sum_by (λ l. l.share.parts) left.leaving ≡ vec_len slots.entry) }
@@ -208,8 +208,8 @@ fn serve_each<'s, 'r, L: SiteName + Send + Sync, R: Threads + Wait + Sync>(
     slots: &mut Vec<Slot<'s, 'r, L, R>>,
 )
     requires few { vec_len slots.old ≤ MAX_THREADS }
-    requires whole { All (λ s. IsWhole (2 ∷ []) s.desk.desk) slots.old.items }
-    ensures whole { All (λ s. IsWhole (2 ∷ []) s.desk.desk) slots.new.items }
+    requires whole { All (λ s. IsWholeDesk (2 ∷ []) s.desk.desk) slots.old.items }
+    ensures whole { All (λ s. IsWholeDesk (2 ∷ []) s.desk.desk) slots.new.items }
     ensures made { AreMade site.now plan (map (λ s. s.made) slots.new.items) }
     ensures len { vec_len slots.new ≡ vec_len slots.old }
 {
@@ -225,7 +225,7 @@ fn serve_and_leave<'s, 'r, L: SiteName + Send + Sync, R: Threads + Wait + Sync>(
     slots: Vec<Slot<'s, 'r, L, R>>,
 ) -> Result<ThreadsLeft<L>, NoMemory>
     requires count { vec_len slots ≡ plan.threads }
-    requires whole { All (λ s. IsWhole (2 ∷ []) s.desk.desk) slots.items }
+    requires whole { All (λ s. IsWholeDesk (2 ∷ []) s.desk.desk) slots.items }
     ensures parts { IfOk result (λ left. sum_by (λ l. l.share.parts) left.leaving ≡ plan.threads) }
     ensures some { IfOk result (λ left. 0 < length left.leaving) }
     ensures none_forgot { IfOk result (λ left. All (λ l. l.forgotten ≡ 0) left.leaving) }

@@ -6,7 +6,7 @@ use Rattle.ajp_talk.specs.Talk.{IsCalmEnd}
 use Rattle.ajp_talk.specs.declared.ending.TalkEnd.{TalkEnd}
 use Rattle.ajp_talk.specs.declared.plan.TalkPlan.{TalkPlan}
 use Rattle.site_config.specs.declared.endpoint.Endpoint.{Endpoint}
-use Rattle.exchange.specs.Exchanges.{EndsIn, HasNone, IsCalm, IsExchange, IsLast, IsOwnCause, begun_with}
+use Rattle.exchange.specs.Exchanges.{EndsIn, HasNoRound, IsCalmExchange, IsExchange, IsLast, IsOwnCause, begun_with}
 use Rattle.exchange.specs.OneTalk.{Around, IsOneTalk}
 use Rattle.exchange.specs.Requests.{Errand, plan_for}
 use Rattle.exchange.specs.Rounds.{HasEnded, Round, Scene, is_later}
@@ -69,7 +69,7 @@ same_end : (m n : Scene) (faults : ℕ) → n ≡ m → m.around.client.faults �
 same_end m n faults same is = ap (λ (x : Scene). x.around.client.faults) same ∙ is
 
 last_calm : (q : Errand) (first : List ℕ) (s : Around) (past : List Round) (a m n : Scene) (end : ExchangeEnd) → IsEarly q first s a.around → EndsIn q first past a m n end
-    → IsCalm end → n.around.client.faults ≡ s.client.faults
+    → IsCalmExchange end → n.around.client.faults ≡ s.client.faults
 last_calm q first s past a m n (exchange_end.Done member told) early (r, round, is, has, rest) calm =
     same_end m n s.client.faults rest (final_calm q first s past a m r _ early round has.ended tt)
 last_calm q first s past a m n (exchange_end.Own status) early (cause, writes) calm = writes.steady ∙ own_calm q first s past a m status early cause
@@ -90,7 +90,7 @@ last_calm q first s past a m n exchange_end.NoMemory early (inr (inl (r, bytes, 
 last_calm q first s past a m n exchange_end.NoMemory early (inr (inr (status, cause, wants))) calm =
     wants.steady ∙ own_calm q first s past a m status early cause
 
-none_calm : (q : Errand) (s n : Scene) (end : ExchangeEnd) → (none : HasNone q s n end) → IsCalm end → n.around.client.faults ≡ s.around.client.faults
+none_calm : (q : Errand) (s n : Scene) (end : ExchangeEnd) → (none : HasNoRound q s n end) → IsCalmExchange end → n.around.client.faults ≡ s.around.client.faults
 none_calm q s n (exchange_end.Done member told) none calm = absurd none.why
 none_calm q s n (exchange_end.Own status) none calm = absurd none.why
 none_calm q s n (exchange_end.Cut member told) none calm = absurd none.why
@@ -99,7 +99,7 @@ none_calm q s n exchange_end.Truncated none calm = none.steady tt
 none_calm q s n (exchange_end.Stray ticket returned_at) none calm = absurd calm
 none_calm q s n exchange_end.NoMemory none calm = none.steady tt
 
-pub calm_at : (q : Errand) (s n : Scene) (end : ExchangeEnd) → IsExchange q s n end → IsCalm end → n.around.client.faults ≡ s.around.client.faults
+pub calm_at : (q : Errand) (s n : Scene) (end : ExchangeEnd) → IsExchange q s n end → IsCalmExchange end → n.around.client.faults ≡ s.around.client.faults
 calm_at q s n end (inl none) calm = none_calm q s n end none calm
 calm_at q s n end (inr rounds) calm =
     let start = begun_with s rounds.client rounds.body in

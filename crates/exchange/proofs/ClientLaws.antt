@@ -5,7 +5,7 @@ use Rattle.jk_io.specs.Told.{appended, IsEmpty, PutsFront, Rose}
 use Rattle.jk_io.specs.declared.reaching.Talk.{Talk}
 use Rattle.jk_io.specs.declared.failures.NoMemory.{NoMemory}
 use Rattle.lb_model.specs.declared.member.MemberConfig.{MemberConfig}
-use Rattle.ajp_request.specs.Writing.{Fits}
+use Rattle.ajp_request.specs.Writing.{FitsForward}
 use Rattle.ajp_reply.specs.declared.message.Message.{Message}
 use Rattle.ajp_reply.specs.declared.message.Message.TheVariants.{Ask, End}
 use Rattle.ajp_reply.specs.declared.message.ReplyParts.{ReplyParts}
@@ -14,7 +14,7 @@ use Rattle.jk_io.specs.Moments.{Moment}
 use Rattle.ajp_talk.specs.Moments.{data_at}
 use Rattle.ajp_talk.specs.Owed.{asked, pong_of}
 use Rattle.ajp_talk.specs.Replies.{bytes_for, chunks_of, has_passed, head_out, kind_of, so_far_of_talk, told_by, told_of_talk, told_with}
-use Rattle.ajp_talk.specs.Talk.{IsBad, IsFrontOrForm, IsTalk, IsGone}
+use Rattle.ajp_talk.specs.Talk.{IsBadBody, IsFrontOrForm, IsTalk, IsGone}
 use Rattle.ajp_talk.specs.declared.ending.Cause.{Cause}
 use Rattle.ajp_reply.specs.declared.stage.Stage.{Stage}
 use Rattle.ajp_talk.specs.declared.ending.TalkEnd.{TalkEnd}
@@ -30,7 +30,7 @@ use Rattle.http_out.specs.Framing.{framing_of}
 use Rattle.http_out.specs.Own.{own_bytes, own_of}
 use Rattle.http_out.specs.declared.own_answers.Own.{Own}
 use Rattle.site_config.specs.declared.endpoint.Endpoint.{Endpoint}
-use Rattle.exchange.specs.Clients.{GetsCut, GetsFront, GetsLess, GetsOwn, GetsReply, GetsReplyFront, Gives, HasLastTalk, IsNotedLast, IsTooLarge, MeetsBody}
+use Rattle.exchange.specs.Clients.{GetsCut, GetsFront, GetsLess, GetsOwn, GetsReply, GetsReplyFront, GivesClient, HasLastTalk, IsNotedLast, IsTooLarge, MeetsBody}
 use Rattle.exchange.specs.Deliveries.{PutsShort}
 use Rattle.exchange.specs.Exchanges.{BreaksOwn, EndsIn, HasReply, IsExchange, IsLast, IsOwnCause, LostClient, WantsOwn, WritesOwn, begun_with}
 use Rattle.exchange.specs.FirstPiece.{IsFirstFailure}
@@ -299,13 +299,13 @@ limit_before None len n most most_now taken taken_now first piece same counted i
 limit_before (Some d) len n most most_now taken taken_now first piece same counted is =
     omega (arith, same, counted, is, ap (λ (bytes : List ℕ). length bytes) piece, length-take len d.bytes, length-drop len d.bytes, length-take n (drop len d.bytes))
 
-bad_before : (q : Errand) (first : List ℕ) (s b : Around) (n status : ℕ) → IsEarly q first s b → IsBad b.body n status → status ≡ 400
+bad_before : (q : Errand) (first : List ℕ) (s b : Around) (n status : ℕ) → IsEarly q first s b → IsBadBody b.body n status → status ≡ 400
     → IfSome (data_at s.body) (λ d. (d.whole ≡ false) × (d.bad ≡ true))
 bad_before q first s b n status early (inl line) is =
     cut_before (data_at s.body) (piece_len q) n true (subst (λ (told : Option Data). IfSome told (λ d. (reaches n d ≡ false) × (d.bad ≡ true))) early.left line.1)
 bad_before q first s b n status early (inr limit) is = absurd (omega (arith, is, limit.0))
 
-long_before : (q : Errand) (first : List ℕ) (s b : Around) (n status : ℕ) → IsEarly q first s b → IsBad b.body n status → status ≡ 413
+long_before : (q : Errand) (first : List ℕ) (s b : Around) (n status : ℕ) → IsEarly q first s b → IsBadBody b.body n status → status ≡ 413
     → IsLimited (data_at s.body) (most_of s.body.body) (taken_of s.body.body)
 long_before q first s b n status early (inl line) is = absurd (omega (arith, is, line.0))
 long_before q first s b n status early (inr limit) is =
@@ -359,7 +359,7 @@ bad_line_of q first s past a m n status early (inr (inr (inr (r, round, inr (inr
     )
 
 unfit_of : (q : Errand) (first : List ℕ) (r : Round) (fresh : Bool) (a m : Around) → HasRun q first r.member r.config r.endpoint fresh a m ran_is.TooLarge
-    → Fits r.endpoint.packet (forward_for q.head q.peer q.balancer.book.direct r.config r.endpoint) → ⊥
+    → FitsForward r.endpoint.packet (forward_for q.head q.peer q.balancer.book.direct r.config r.endpoint) → ⊥
 unfit_of q first r fresh a m (inl (fits, run)) = absurd run
 unfit_of q first r fresh a m (inr (inl (is, unfit, none))) = unfit
 unfit_of q first r fresh a m (inr (inr (is, none))) = absurd cc
@@ -553,7 +553,7 @@ cut_gone q first plan s b n opened closed keep moved early gone =
 
 -- The client after the last round, by the end of the exchange.
 gives_last : (q : Errand) (first : List ℕ) (s a m n : Scene) (past : List Round) (end : ExchangeEnd) → IsEarly q first s.around a.around → Extends s.desk a.desk
-    → EndsIn q first past a m n end → Gives q s n end
+    → EndsIn q first past a m n end → GivesClient q s n end
 gives_last q first s a m n past (exchange_end.Done member told) early extends (r, round, is, has, rest) =
     subst (λ (x : Scene). GetsReply q member told s.around x.around) (sym rest)
     (subst (λ (k : ℕ). GetsReply q k told s.around m.around) is (gets_reply q first s.around a m r past told early round has))
@@ -606,7 +606,7 @@ cut_first (Some d) len is = (not_whole (nat_le len (length d.bytes)) d.whole is.
 
 -- before a first round nothing was written
 gives_none : (q : Errand) (s n : Scene) (end : ExchangeEnd) → IsFirstFailure (piece_len q) s.around.body s.around.client.faults n.around.client.faults end
-    → n.around.client.sent ≡ s.around.client.sent → Gives q s n end
+    → n.around.client.sent ≡ s.around.client.sent → GivesClient q s n end
 gives_none q s n (exchange_end.Done member told) why same = absurd why
 gives_none q s n (exchange_end.Own status) why same = absurd why
 gives_none q s n (exchange_end.Cut member told) why same = absurd why
@@ -615,7 +615,7 @@ gives_none q s n exchange_end.Truncated why same = (cut_first (data_at s.around.
 gives_none q s n (exchange_end.Stray ticket returned_at) why same = absurd why
 gives_none q s n exchange_end.NoMemory why same = inl same
 
-pub gives : (q : Errand) (s n : Scene) (end : ExchangeEnd) → IsExchange q s n end → Gives q s n end
+pub gives : (q : Errand) (s n : Scene) (end : ExchangeEnd) → IsExchange q s n end → GivesClient q s n end
 gives q s n end (inl none) = gives_none q s n end none.why none.written
 gives q s n end (inr rounds) =
     let start = begun_with s rounds.client rounds.body in

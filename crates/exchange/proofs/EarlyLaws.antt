@@ -4,7 +4,7 @@ use Rattle.jk_io.specs.Moments.{Moment}
 use Rattle.jk_io.specs.Told.{appended, Rose}
 use Rattle.jk_io.specs.declared.reaching.Talk.{Talk}
 use Rattle.lb_model.specs.declared.refusal.Stray.{Stray}
-use Rattle.ajp_talk.specs.Moments.{BodyAt, Takes, data_at}
+use Rattle.ajp_talk.specs.Moments.{BodyAt, TakesOfBody, data_at}
 use Rattle.ajp_talk.specs.declared.ending.TalkEnd.{TalkEnd}
 use Rattle.ajp_talk.specs.declared.ending.TalkEnd.TheVariants as ends
 use Rattle.ajp_talk.specs.declared.ending.Told.{Told}
@@ -33,7 +33,7 @@ piece_len q = first_len q.head.plan q.balancer.ends
 -- Nothing was written, and just the first piece was taken.
 pub record IsEarly (q : Errand) (first : List ℕ) (s n : Around) : Type 0 where
   pub piece : IfSome (data_at s.body) (λ d. first ≡ take (piece_len q) d.bytes)
-  pub takes : Takes s.body n.body first
+  pub takes : TakesOfBody s.body n.body first
   pub left : data_at n.body ≡ dropped (piece_len q) (data_at s.body)
   pub written : n.client.sent ≡ s.client.sent
   pub client_faults : n.client.faults ≡ s.client.faults
@@ -60,7 +60,7 @@ starts_early q first s client body took unwritten steady = record {
 pub still_early : (q : Errand) (first : List ℕ) (s m n : Around) → IsEarly q first s m → IsUnmoved m n → Grows m n → IsEarly q first s n
 still_early q first s m n early kept grows = record {
   piece = early.piece;
-  takes = subst (Takes s.body n.body) (append-nil first) (takes_twice s.body m.body n.body first [] early.takes (kept.takes early.takes.going));
+  takes = subst (TakesOfBody s.body n.body) (append-nil first) (takes_twice s.body m.body n.body first [] early.takes (kept.takes early.takes.going));
   left = kept.left ∙ early.left;
   written = kept.written ∙ early.written;
   client_faults = kept.client_faults ∙ early.client_faults;

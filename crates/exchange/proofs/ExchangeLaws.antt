@@ -16,7 +16,7 @@ use Rattle.http_front.specs.declared.head.BodyPlan.TheVariants as plan_is
 use Rattle.ajp_talk.specs.declared.ending.TalkEnd.{TalkEnd}
 use Rattle.forwarding.specs.FirstPiece.{first_len}
 use Rattle.site_config.specs.declared.endpoint.Endpoint.{Endpoint}
-use Rattle.exchange.specs.Exchanges.{GoesThrough, IsCalm, IsExchange, begun_with}
+use Rattle.exchange.specs.Exchanges.{GoesThrough, IsCalmExchange, IsExchange, begun_with}
 use Rattle.exchange.specs.FirstPiece.{IsFirstFailure, TakesFirst}
 use Rattle.exchange.specs.OneTalk.{Around}
 use Rattle.exchange.specs.Requests.{Errand, ask_for, own_kind, plan_for}
@@ -136,7 +136,7 @@ is_exchange q first s e client body end took unwritten steady through =
 pub never_began : (q : Errand) (s n : Scene) (end : ExchangeEnd)
     → IsFirstFailure (first_len q.head.plan q.balancer.ends) s.around.body s.around.client.faults n.around.client.faults end
     → n.desk ≡ s.desk → n.clock ≡ s.clock → n.around.talks ≡ s.around.talks → n.around.faults ≡ s.around.faults
-    → n.around.client.sent ≡ s.around.client.sent → (IsCalm end → n.around.client.faults ≡ s.around.client.faults)
+    → n.around.client.sent ≡ s.around.client.sent → (IsCalmExchange end → n.around.client.faults ≡ s.around.client.faults)
     → IsUsed s.around.body n.around.body → IsExchange q s n end
 never_began q s n end why desk clock talks faults written steady used =
     inl (record { why = why; desk = desk; clock = clock; talks = talks; faults = faults; written = written; steady = steady; used = used })

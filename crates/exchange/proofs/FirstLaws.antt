@@ -7,7 +7,7 @@ use Rattle.http_front.specs.Takes.{BodyMoment, MeetsFault, TakesPiece, unread_at
 use Rattle.http_front.specs.Wants.{Next}
 use Rattle.http_front.specs.declared.fault.BodyFault.{BodyFault}
 use Rattle.http_front.specs.declared.fault.BodyFault.TheVariants as fault
-use Rattle.exchange.specs.Exchanges.{IsCalm}
+use Rattle.exchange.specs.Exchanges.{IsCalmExchange}
 use Rattle.exchange.specs.FirstPiece.{IsFirstFailure, TakesFirst, end_by}
 use Rattle.exchange.specs.declared.ending.ExchangeEnd.{ExchangeEnd}
 use Rattle.http_front.specs.Body.{data_from, data_of, reaches}
@@ -90,11 +90,11 @@ fails_first plan ends len s n fault.NoMemory met start is some going = tt
 
 -- where no read failed the count of faults stands
 pub calm_first : (len : ℕ) (s n : BodyMoment) (why : BodyFault) (end : ExchangeEnd) → MeetsFault s n (Next len) why → end ≡ end_by why
-    → IsCalm end → n.client.faults ≡ s.client.faults
+    → IsCalmExchange end → n.client.faults ≡ s.client.faults
 calm_first len s n fault.Truncated end met is calm = met.steady tt
 calm_first len s n fault.BadChunk end met is calm = met.steady tt
 calm_first len s n fault.TooLong end met is calm = met.steady tt
-calm_first len s n fault.Fault end met is calm = absurd (subst IsCalm is calm)
+calm_first len s n fault.Fault end met is calm = absurd (subst IsCalmExchange is calm)
 calm_first len s n fault.NoMemory end met is calm = met.steady tt
 
 pub uses_first : (len : ℕ) (s n : BodyMoment) (why : BodyFault) → MeetsFault s n (Next len) why

@@ -7,7 +7,7 @@ use Rattle.jk_io.specs.Told.{appended}
 use Rattle.ajp_reply.specs.declared.message.ReplyParts.{ReplyParts}
 use Rattle.ajp_reply.specs.Stream.{head_of}
 use Rattle.jk_io.specs.Moments.{Moment}
-use Rattle.ajp_talk.specs.Moments.{BodyAt, Takes, data_at}
+use Rattle.ajp_talk.specs.Moments.{BodyAt, TakesOfBody, data_at}
 use Rattle.ajp_talk.specs.Replies.{chunks_of, has_passed, head_out, kind_of, passed_of}
 use Rattle.ajp_talk.specs.Talk.{HasFailed, HasNoPong, IsCalmEnd, IsTalk}
 use Rattle.ajp_talk.specs.declared.ending.Cause.{Cause}
@@ -34,25 +34,25 @@ pub record IsUnmoved (s n : Around) : Type 0 where
   pub taken : taken_of n.body.body ≡ taken_of s.body.body
   pub going : failed_of s.body.body ≡ None → failed_of n.body.body ≡ None
   pub left : data_at n.body ≡ data_at s.body
-  pub takes : failed_of s.body.body ≡ None → Takes s.body n.body []
+  pub takes : failed_of s.body.body ≡ None → TakesOfBody s.body n.body []
   pub reach_faults : s.faults ≤ n.faults
   pub client_faults : n.client.faults ≡ s.client.faults
 
 -- nothing happened
-pub takes_none : (b : BodyAt) → failed_of b.body ≡ None → Takes b b []
+pub takes_none : (b : BodyAt) → failed_of b.body ≡ None → TakesOfBody b b []
 takes_none b going = record { uses = Uses-nil b.unread (place_of b.body); counted = omega arith; going = going; most = refl }
 
-same_takes : (s n : BodyAt) → n ≡ s → failed_of s.body ≡ None → Takes s n []
-same_takes s n same going = subst (λ (x : BodyAt). Takes s x []) (sym same) (takes_none s going)
+same_takes : (s n : BodyAt) → n ≡ s → failed_of s.body ≡ None → TakesOfBody s n []
+same_takes s n same going = subst (λ (x : BodyAt). TakesOfBody s x []) (sym same) (takes_none s going)
 
 none_of_length : (bytes : List ℕ) → length bytes ≡ 0 → bytes ≡ []
 none_of_length [] none = refl
 none_of_length (b ∷ bytes) none = absurd (omega (arith, none))
 
-takes_nothing : (s n : BodyAt) (taken : List ℕ) → Takes s n taken → taken_of n.body ≡ taken_of s.body → Takes s n []
-takes_nothing s n taken takes same = subst (Takes s n) (none_of_length taken (omega (arith, takes.counted, same))) takes
+takes_nothing : (s n : BodyAt) (taken : List ℕ) → TakesOfBody s n taken → taken_of n.body ≡ taken_of s.body → TakesOfBody s n []
+takes_nothing s n taken takes same = subst (TakesOfBody s n) (none_of_length taken (omega (arith, takes.counted, same))) takes
 
-pub takes_twice : (s m n : BodyAt) (first second : List ℕ) → Takes s m first → Takes m n second → Takes s n (first ++ second)
+pub takes_twice : (s m n : BodyAt) (first second : List ℕ) → TakesOfBody s m first → TakesOfBody m n second → TakesOfBody s n (first ++ second)
 takes_twice s m n first second one two = record {
   uses = Uses-then s.unread m.unread n.unread (place_of s.body) (place_of m.body) (place_of n.body) first second one.uses two.uses;
   counted = omega (arith, one.counted, two.counted, length-append first second);

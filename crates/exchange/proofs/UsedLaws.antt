@@ -5,7 +5,7 @@ use Rattle.jk_io.specs.declared.failures.NoMemory.{NoMemory}
 use Rattle.lb_model.specs.declared.member.MemberConfig.{MemberConfig}
 use Rattle.lb_model.specs.declared.refusal.Stray.{Stray}
 use Rattle.jk_io.specs.Moments.{Moment}
-use Rattle.ajp_talk.specs.Moments.{BodyAt, IsUsed, Takes}
+use Rattle.ajp_talk.specs.Moments.{BodyAt, IsUsed, TakesOfBody}
 use Rattle.ajp_talk.specs.Talk.{IsTalk}
 use Rattle.ajp_talk.specs.declared.ending.TalkEnd.{TalkEnd}
 use Rattle.ajp_talk.specs.declared.ending.TalkEnd.TheVariants as ends
@@ -47,7 +47,7 @@ used_twice s m n first second = record {
   most = second.most ∙ first.most;
 }
 
-used_by : (s n : BodyAt) (taken : List ℕ) → Takes s n taken → IsUsed s n
+used_by : (s n : BodyAt) (taken : List ℕ) → TakesOfBody s n taken → IsUsed s n
 used_by s n taken takes = record { gone = takes.uses.gone; used = takes.uses.used; most = takes.most }
 
 talk_used : (plan : TalkPlan) (s n : Around) (opened closed : Moment) (answer : Result TalkEnd NoMemory)

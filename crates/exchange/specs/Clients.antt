@@ -7,11 +7,11 @@ use Rattle.lb_model.specs.declared.journal.Answer.{Answer}
 use Rattle.lb_model.specs.declared.journal.Answer.TheVariants as answer
 use Rattle.lb_book.specs.Desks.{DeskState, MeetsNone, RisesByOne, first_stray}
 use Rattle.lb_book.specs.declared.receipt.Receipt.{Receipt}
-use Rattle.ajp_request.specs.Writing.{Fits}
+use Rattle.ajp_request.specs.Writing.{FitsForward}
 use Rattle.ajp_reply.specs.Stream.{Spelled}
 use Rattle.ajp_reply.specs.declared.message.Message.{Message}
 use Rattle.ajp_reply.specs.declared.message.Message.TheVariants.{End}
-use Rattle.ajp_talk.specs.Moments.{Takes, data_at}
+use Rattle.ajp_talk.specs.Moments.{TakesOfBody, data_at}
 use Rattle.ajp_talk.specs.Owed.{pong_of}
 use Rattle.ajp_talk.specs.Replies.{IsReply, IsUnlisted, bytes_for, passed_of, reply_of_talk, so_far_of_talk}
 use Rattle.ajp_talk.specs.Talk.{Accepts, IsFrontOrForm}
@@ -47,7 +47,7 @@ pub record HasLastTalk (q : Errand) (member : ℕ) (s n : Around) (end : TalkEnd
   pub fresh : Bool
   pub begun : Around
   pub piece : IfSome (data_at s.body) (λ d. first ≡ take (first_len q.head.plan q.balancer.ends) d.bytes)
-  pub takes : Takes s.body begun.body first
+  pub takes : TakesOfBody s.body begun.body first
   pub left : data_at begun.body ≡ dropped (first_len q.head.plan q.balancer.ends) (data_at s.body)
   pub unwritten : begun.client.sent ≡ s.client.sent
   pub others : List Talk
@@ -78,7 +78,7 @@ pub record GetsReply (q : Errand) (member : ℕ) (told : Told) (s n : Around) : 
   pub noted : IsNotedLast member last.endpoint (plan_in q member s n (ends.Done told reuse moved) last) came s n
   pub written : n.client.sent ≡ appended s.client.sent (reply_of_talk (plan_in q member s n (ends.Done told reuse moved) last) past)
   pub taken : List ℕ
-  pub takes : Takes s.body n.body taken
+  pub takes : TakesOfBody s.body n.body taken
 
 -- how a talk ends that leaves a reply broken off
 abbrev pub IsBreak : TalkEnd → Told → Type 0
@@ -174,7 +174,7 @@ pub record IsTooLarge (q : Errand) (n : Scene) : Type 0 where
   pub over : Scene
   pub round : Round
   pub chosen : IsRound q first tried fresh begun over round None
-  pub unfit : Fits round.endpoint.packet (forward_for q.head q.peer q.balancer.book.direct round.config round.endpoint) → ⊥
+  pub unfit : FitsForward round.endpoint.packet (forward_for q.head q.peer q.balancer.book.direct round.config round.endpoint) → ⊥
   pub rest : n ≡ record over { around = record over.around { client = n.around.client } }
 
 -- The last talk answered an ask, passed nothing, and found the body bad.
@@ -204,15 +204,15 @@ pub record GetsOwn (q : Errand) (status : ℕ) (s n : Scene) : Type 0 where
 
 -- The client by the end of the exchange. Truncated comes only where its bytes ended within the body, ClientFault
 -- only where its faults rose, and Stray only where the desk's strays rose.
-abbrev pub Gives : Errand → Scene → Scene → ExchangeEnd → Type 0
-Gives q s n (exchange_end.Done member told) = GetsReply q member told s.around n.around
-Gives q s n (exchange_end.Own status) = GetsOwn q status s n
-Gives q s n (exchange_end.Cut member told) = GetsCut q member told s.around n.around
-Gives q s n exchange_end.ClientFault = Rose s.around.client.faults n.around.client.faults × GetsFront q s.around n.around
-Gives q s n exchange_end.Truncated =
+abbrev pub GivesClient : Errand → Scene → Scene → ExchangeEnd → Type 0
+GivesClient q s n (exchange_end.Done member told) = GetsReply q member told s.around n.around
+GivesClient q s n (exchange_end.Own status) = GetsOwn q status s n
+GivesClient q s n (exchange_end.Cut member told) = GetsCut q member told s.around n.around
+GivesClient q s n exchange_end.ClientFault = Rose s.around.client.faults n.around.client.faults × GetsFront q s.around n.around
+GivesClient q s n exchange_end.Truncated =
     IfSome (data_at s.around.body) (λ d. (d.whole ≡ false) × (d.bad ≡ false)) × GetsFront q s.around n.around
-Gives q s n (exchange_end.Stray ticket returned_at) = Rose s.desk.strays n.desk.strays × GetsFront q s.around n.around
-Gives q s n exchange_end.NoMemory = GetsLess q s.around n.around
+GivesClient q s n (exchange_end.Stray ticket returned_at) = Rose s.desk.strays n.desk.strays × GetsFront q s.around n.around
+GivesClient q s n exchange_end.NoMemory = GetsLess q s.around n.around
 
 -- A stray was met where the exchange ended by one, which is the end's, and there alone.
 abbrev pub MeetsAt : ExchangeEnd → DeskState → DeskState → Type 0

@@ -127,29 +127,29 @@ pub record HasRounds (q : Errand) (s n : Scene) (end : ExchangeEnd) : Type 0 whe
   pub through : GoesThrough q first (begun_with s client body) n end
 
 -- An end that neither a failed call of the client nor a stray made. Truncated is one: the bytes ended. So is want of memory.
-abbrev pub IsCalm : ExchangeEnd → Type 0
-IsCalm (exchange_end.Done member told) = Unit {0}
-IsCalm (exchange_end.Own status) = Unit {0}
-IsCalm (exchange_end.Cut member told) = Unit {0}
-IsCalm exchange_end.ClientFault = ⊥
-IsCalm exchange_end.Truncated = Unit {0}
-IsCalm (exchange_end.Stray ticket returned_at) = ⊥
-IsCalm exchange_end.NoMemory = Unit {0}
+abbrev pub IsCalmExchange : ExchangeEnd → Type 0
+IsCalmExchange (exchange_end.Done member told) = Unit {0}
+IsCalmExchange (exchange_end.Own status) = Unit {0}
+IsCalmExchange (exchange_end.Cut member told) = Unit {0}
+IsCalmExchange exchange_end.ClientFault = ⊥
+IsCalmExchange exchange_end.Truncated = Unit {0}
+IsCalmExchange (exchange_end.Stray ticket returned_at) = ⊥
+IsCalmExchange exchange_end.NoMemory = Unit {0}
 
 -- Before a first round: the first piece couldn't be taken, or memory was wanted. Neither desk nor clock nor reach was asked.
-pub record HasNone (q : Errand) (s n : Scene) (end : ExchangeEnd) : Type 0 where
+pub record HasNoRound (q : Errand) (s n : Scene) (end : ExchangeEnd) : Type 0 where
   pub why : IsFirstFailure (first_len q.head.plan q.balancer.ends) s.around.body s.around.client.faults n.around.client.faults end
   pub desk : n.desk ≡ s.desk
   pub clock : n.clock ≡ s.clock
   pub talks : n.around.talks ≡ s.around.talks
   pub faults : n.around.faults ≡ s.around.faults
   pub written : n.around.client.sent ≡ s.around.client.sent
-  pub steady : IsCalm end → n.around.client.faults ≡ s.around.client.faults
+  pub steady : IsCalmExchange end → n.around.client.faults ≡ s.around.client.faults
   pub used : IsUsed s.around.body n.around.body
 
 -- An exchange, by its end.
 abbrev pub IsExchange : Errand → Scene → Scene → ExchangeEnd → Type 0
-IsExchange q s n end = HasNone q s n end ⊎ HasRounds q s n end
+IsExchange q s n end = HasNoRound q s n end ⊎ HasRounds q s n end
 
 -- the client's bytes were used from the front
 abbrev pub UsesFront : Errand → Scene → Scene → ExchangeEnd → Type 0
@@ -161,7 +161,7 @@ NotesTalks q s n end = (noted : List Talk) × (n.around.talks ≡ appended s.aro
 
 -- after a calm end the client's count of faults stands
 abbrev pub StaysCalm : Errand → Scene → Scene → ExchangeEnd → Type 0
-StaysCalm q s n end = IsCalm end → n.around.client.faults ≡ s.around.client.faults
+StaysCalm q s n end = IsCalmExchange end → n.around.client.faults ≡ s.around.client.faults
 
 -- P of each exchange of this errand that ends so: of where it began, and where it ended.
 abbrev pub InEachExchange : Errand → ExchangeEnd → (Errand → Scene → Scene → ExchangeEnd → Type 0) → Type 0

@@ -4,7 +4,7 @@ use Rattle.jk_io.specs.Told.{Rose}
 use Rattle.jk_io.specs.declared.traits.streams.Meanings.{Ghosts}
 use Rattle.http_front.specs.Unread.{unread}
 use Rattle.http_front.specs.Body.{dropped, reaches}
-use Rattle.ajp_talk.specs.Moments.{BodyAt, Takes, data_at}
+use Rattle.ajp_talk.specs.Moments.{BodyAt, TakesOfBody, data_at}
 use Rattle.http_front.specs.declared.body.BodyIn.{BodyIn}
 use Rattle.http_front.specs.declared.fault.BodyFault.{BodyFault}
 use Rattle.http_front.specs.declared.fault.BodyFault.TheVariants as fault
@@ -20,7 +20,7 @@ pub record TakesFirst (len : ℕ) (s n : BodyAt) (first : List ℕ) : Type 0 whe
   pub piece : IfSome (data_at s) (λ d. (first ≡ take len d.bytes) × IsTrue (reaches len d))
   pub short : length first ≤ len
   pub left : data_at n ≡ dropped len (data_at s)
-  pub takes : Takes s n first
+  pub takes : TakesOfBody s n first
 
 -- Why it couldn't be taken.
 abbrev pub IsFirstFailure : (len : ℕ) → BodyAt → (faults faults_now : ℕ) → ExchangeEnd → Type 0

@@ -2,7 +2,7 @@
 use Rattle.std.specs.Prelude.{◌≡◌, ℕ, ◌+◌, ◌<◌, ◌⊎◌, Bool, true, List, [], ◌∷◌, length, IfOk, Result, Ok, Err}
 use Rattle.jk_io.specs.declared.failures.NoMemory.{NoMemory}
 use Rattle.lb_model.specs.declared.member.MemberConfig.{MemberConfig}
-use Rattle.ajp_request.specs.Writing.{Fits}
+use Rattle.ajp_request.specs.Writing.{FitsForward}
 use Rattle.ajp_talk.specs.declared.ending.TalkEnd.{TalkEnd}
 use Rattle.ajp_talk.specs.declared.plan.TalkPlan.{TalkPlan}
 use Rattle.forwarding.specs.Forwards.{forward_for}
@@ -48,7 +48,7 @@ HaveTalked lb member endpoint head plan fresh s n (ran_is.Ended end bytes) =
 -- before the first.
 abbrev pub HasRun : Errand → (first : List ℕ) → (member : ℕ) → MemberConfig → Endpoint → (fresh : Bool) → Around → Around → Ran → Type 0
 HasRun q first member config endpoint fresh s n ran =
-    (Fits endpoint.packet (forward_for q.head q.peer q.balancer.book.direct config endpoint)
+    (FitsForward endpoint.packet (forward_for q.head q.peer q.balancer.book.direct config endpoint)
     × HaveTalked q.lb member endpoint q.head (plan_for q first config endpoint) fresh s n ran)
-    ⊎ (((ran ≡ ran_is.TooLarge) × (Fits endpoint.packet (forward_for q.head q.peer q.balancer.book.direct config endpoint) → ⊥) × (n ≡ s))
+    ⊎ (((ran ≡ ran_is.TooLarge) × (FitsForward endpoint.packet (forward_for q.head q.peer q.balancer.book.direct config endpoint) → ⊥) × (n ≡ s))
     ⊎ ((ran ≡ ran_is.Wanted 0) × (n ≡ s)))

@@ -1,5 +1,5 @@
 //! `exchange_of`: a request, from the first piece of its body to what its client has.
-ghost use Rattle.exchange.specs.Clients.{Gives, MeetsThere};
+ghost use Rattle.exchange.specs.Clients.{GivesClient, MeetsThere};
 ghost use Rattle.exchange.specs.Complete.{Completes};
 ghost use Rattle.exchange.specs.Exchanges.{InEachExchange, IsExchange, NotesTalks, StaysCalm, UsesFront};
 ghost use Rattle.exchange.specs.Keeping.{IsAllLeft, KeepsMeans, MayAsk};
@@ -40,7 +40,7 @@ where
     // Each exchange that ends so: what the client has; where each member has option 1 and neither 8 nor 16 the request is sent
     // whole at most once; and where the first link has a whole reply to come and nothing fails, the client has it after that
     // one talk. The client's bytes are used from the front.
-    ensures client { InEachExchange (errand_of request.now) result Gives }
+    ensures client { InEachExchange (errand_of request.now) result GivesClient }
     ensures whole_once { InEachExchange (errand_of request.now) result GoesWholeOnce }
     ensures complete { InEachExchange (errand_of request.now) result Completes }
     ensures used { InEachExchange (errand_of request.now) result UsesFront }

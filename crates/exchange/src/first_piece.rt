@@ -3,7 +3,7 @@ ghost use Rattle.std.specs.Prelude.{◌≡◌, ◌≤◌, IfOk, IfErr, OnOk};
 ghost use Rattle.ajp_talk.specs.Moments.{IsUsed};
 ghost use Rattle.forwarding.specs.FirstPiece.{first_len as first_length};
 ghost use Rattle.exchange.specs.FirstPiece.{IsFirstFailure, TakesFirst, body_left, end_by};
-ghost use Rattle.exchange.specs.Exchanges.{IsCalm};
+ghost use Rattle.exchange.specs.Exchanges.{IsCalmExchange};
 ghost use Rattle.exchange.specs.Keeping.{IsAllLeft};
 
 use crate::ending::ExchangeEnd;
@@ -31,7 +31,7 @@ pub(crate) fn take_first<C: Link>(
     ensures used { let left = body_left C.Meanings in
         IfErr result (λ _. IsUsed (left body.old inbox.old client.old) (left body.new inbox.new client.new)) }
     ensures steady { OnOk result (C.faults client.new ≡ C.faults client.old) }
-    ensures calm { IfErr result (λ end. IsCalm end → C.faults client.new ≡ C.faults client.old) }
+    ensures calm { IfErr result (λ end. IsCalmExchange end → C.faults client.new ≡ C.faults client.old) }
     ensures same { (C.sent client.new ≡ C.sent client.old) × (C.beside client.new ≡ C.beside client.old) }
     ensures no_fewer { C.faults client.old ≤ C.faults client.new }
 {

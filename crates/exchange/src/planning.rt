@@ -1,6 +1,6 @@
 //! The ask of a request to its balancer, and the plan of a member's talks.
 ghost use Rattle.std.specs.Prelude.{◌≡◌, ◌≤◌, length, IfOk, OnOk, Err};
-ghost use Rattle.ajp_request.specs.Writing.{Fits};
+ghost use Rattle.ajp_request.specs.Writing.{FitsForward};
 ghost use Rattle.ajp_talk.specs.Ends.{IsPlan};
 ghost use Rattle.forwarding.specs.FirstPiece.{piece_for};
 ghost use Rattle.exchange.specs.Requests.{ask_for, errand_of, forward_to, ids_in, is_none_there, plan_for as plan_of, route_in};
@@ -58,9 +58,9 @@ pub(crate) fn plan_for(
     requires { length first.now ≤ piece_for endpoint.now }
     ensures value { IfOk result (λ plan. plan ≡ plan_of (errand_of request.now) first.now config.now endpoint.now) }
     ensures plan { IfOk result IsPlan }
-    ensures fits { OnOk result (Fits endpoint.now.packet (forward_to (errand_of request.now) config.now endpoint.now)) }
+    ensures fits { OnOk result (FitsForward endpoint.now.packet (forward_to (errand_of request.now) config.now endpoint.now)) }
     ensures too_large { result ≡ Err EncodeError.TooLarge
-        → Fits endpoint.now.packet (forward_to (errand_of request.now) config.now endpoint.now) → ⊥ }
+        → FitsForward endpoint.now.packet (forward_to (errand_of request.now) config.now endpoint.now) → ⊥ }
 {
     let forward = forward_packet(
         alloc,

@@ -4,7 +4,7 @@ ghost use Rattle.std.specs.Bool.{OnTrue};
 ghost use Rattle.ajp_wire.specs.declared.errors.EncodeError.{EncodeError as AnyError};
 ghost use Rattle.ajp_wire.specs.declared.head_pairs.TheConstants.{MAX_HEADERS};
 ghost use Rattle.ajp_request.specs.Parts.{told_by};
-ghost use Rattle.ajp_request.specs.Writing.{Fits, as_read, payload_of};
+ghost use Rattle.ajp_request.specs.Writing.{FitsForward, as_read, payload_of};
 ghost use Rattle.ajp_request.specs.Spelling.{SpellsForward};
 ghost use Rattle.forwarding.specs.Forwards.{GoOn, forward_for, forward_with, line_for, packet_for, protocol_of as protocol_text};
 
@@ -29,11 +29,11 @@ pub fn forward_packet(
     endpoint: &Endpoint,
 ) -> Result<Bytes, EncodeError>
     ensures ok { IfOk result (λ bytes. bytes ≡ packet_for head.now peer.now.addr direct member.now endpoint.now) }
-    ensures fits { OnOk result (Fits endpoint.now.packet (forward_for head.now peer.now.addr direct member.now endpoint.now)) }
+    ensures fits { OnOk result (FitsForward endpoint.now.packet (forward_for head.now peer.now.addr direct member.now endpoint.now)) }
     ensures spelled { let f = forward_for head.now peer.now.addr direct member.now endpoint.now in
         OnOk result (SpellsForward (as_read f) (payload_of f)) }
     ensures too_large { result ≡ Err EncodeError.TooLarge
-        → Fits endpoint.now.packet (forward_for head.now peer.now.addr direct member.now endpoint.now) → ⊥ }
+        → FitsForward endpoint.now.packet (forward_for head.now peer.now.addr direct member.now endpoint.now) → ⊥ }
 {
     let attributes = attributes_of(alloc, head, direct, member, endpoint)?;
     let trimmed = trimmed_lines(alloc, &head.headers)?;

@@ -10,7 +10,7 @@ use Rattle.jk_io.specs.declared.failures.IoError.TheVariants as io
 use Rattle.site_config.specs.declared.config.Config.{Config}
 use Rattle.gear_parts.specs.Steps.{AreTaken}
 use Rattle.gear_parts.specs.Wants.{AreSuited, GearWants}
-use Rattle.gear_parts.specs.Worlds.{GearTells, HandsAndTakes, HandsNone, IsMade, RefusesGear, Takes, WorldSide}
+use Rattle.gear_parts.specs.Worlds.{GearTells, HandsAndTakes, HandsNone, IsMade, RefusesGear, HandsOutGear, WorldSide}
 use Rattle.gear_parts.specs.declared.world.Gear.{Gear}
 
 -- nothing was handed out, and nothing came back
@@ -102,7 +102,7 @@ none_yet tells wanted cfg s (g ∷ gears) none = absurd (omega (arith, none))
 
 -- another one was taken
 pub taken_on : {D G T K S O C : Type 0} (tells : GearTells D G T K S O C) (number : ℕ) (wanted : GearWants) (cfg : Option Config) (s m n : WorldSide (Gear D G T K S O)) (gears more : List (Gear D G T K S O))
-    → AreTaken tells wanted cfg s m gears → number ≡ length gears → Takes tells number wanted cfg m n gears more → AreTaken tells wanted cfg s n more
+    → AreTaken tells wanted cfg s m gears → number ≡ length gears → HandsOutGear tells number wanted cfg m n gears more → AreTaken tells wanted cfg s n more
 taken_on {D} {G} {T} {K} {S} {O} tells number wanted cfg s m n gears more so_far place taken =
     let at : number ≡ 0 + length gears = omega (arith, place) in record {
       passed = handed_on s m n gears more taken.gear so_far.passed taken.added taken.handed taken.came_back taken.counted taken.no_fewer;

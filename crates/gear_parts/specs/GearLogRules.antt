@@ -7,14 +7,14 @@ use Rattle.jk_io.specs.declared.traits.streams.Meanings.{Ghosts}
 use Rattle.lb_model.specs.declared.served.Served.{Served}
 use Rattle.request_log.specs.LogRules.{gains_nothing, gains_on, is_some}
 use Rattle.request_log.specs.LogStates.{GainsRows, LogState}
-use Rattle.gear_parts.specs.GearLogs.{broken_by, Gains, log_faults}
+use Rattle.gear_parts.specs.GearLogs.{broken_by, LogGains, log_faults}
 use Rattle.gear_parts.specs.Logs.{BreaksLoudly}
 
-pub nothing_gained : {O X : Type 0} (told : Ghosts O X) (s : Option (LogState O)) → Gains told s [] s
+pub nothing_gained : {O X : Type 0} (told : Ghosts O X) (s : Option (LogState O)) → LogGains told s [] s
 nothing_gained told None = tt
 nothing_gained told (Some s) = gains_nothing told s
 
-pub gained_on : {O X : Type 0} (told : Ghosts O X) (s t u : Option (LogState O)) (xs ys : List Served) → Gains told s xs t → Gains told t ys u → Gains told s (xs ++ ys) u
+pub gained_on : {O X : Type 0} (told : Ghosts O X) (s t u : Option (LogState O)) (xs ys : List Served) → LogGains told s xs t → LogGains told t ys u → LogGains told s (xs ++ ys) u
 gained_on told None None None xs ys first then = tt
 gained_on told None None (Some u) xs ys first then = absurd then
 gained_on told None (Some t) u xs ys first then = absurd first
@@ -28,7 +28,7 @@ breaks_by : {O X : Type 0} (told : Ghosts O X) (s t : LogState O) (rows : List S
 breaks_by told s t rows None is gains failed = inr (gains.failed is failed)
 breaks_by told s t rows (Some error) is gains failed = inl (sym is ∙ sym (gains.over (is_some is)).0 ∙ failed)
 
-pub breaks_loudly : {O X : Type 0} (told : Ghosts O X) (s t : Option (LogState O)) (rows : List Served) → Gains told s rows t
+pub breaks_loudly : {O X : Type 0} (told : Ghosts O X) (s t : Option (LogState O)) (rows : List Served) → LogGains told s rows t
     → BreaksLoudly (broken_by s) (broken_by t) (log_faults told.faults s) (log_faults told.faults t)
 breaks_loudly told None None rows gains failed = absurd cc
 breaks_loudly told None (Some t) rows gains failed = absurd gains

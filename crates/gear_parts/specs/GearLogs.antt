@@ -18,11 +18,11 @@ sink_of None = None
 sink_of (Some s) = Some s.sink
 
 -- These rows were put, in order; where there is no log they are dropped.
-abbrev pub Gains : {O X : Type 0} → Ghosts O X → Option (LogState O) → List Served → Option (LogState O) → Type 0
-Gains told None rows None = Unit {0}
-Gains told None rows (Some t) = ⊥
-Gains told (Some s) rows None = ⊥
-Gains told (Some s) rows (Some t) = GainsRows told s rows t
+abbrev pub LogGains : {O X : Type 0} → Ghosts O X → Option (LogState O) → List Served → Option (LogState O) → Type 0
+LogGains told None rows None = Unit {0}
+LogGains told None rows (Some t) = ⊥
+LogGains told (Some s) rows None = ⊥
+LogGains told (Some s) rows (Some t) = GainsRows told s rows t
 
 -- It was told of a client.
 abbrev pub GreetsIf : {O : Type 0} → Option (LogState O) → Peer → Option (LogState O) → Type 0

@@ -11,7 +11,7 @@ use Rattle.jk_io.specs.declared.traits.surroundings.Clock.{Ghosts as ClockGhosts
 use Rattle.jk_io.specs.declared.traits.surroundings.Door.{Ghosts as DoorGhosts}
 use Rattle.site_config.specs.declared.config.Config.{Config}
 use Rattle.gear_parts.specs.Wants.{AreSuited, GearWants, wants_of}
-use Rattle.gear_parts.specs.Worlds.{gear_tells, GearTells, HandsAndTakes, IsMade, Takes, world_side, WorldSide}
+use Rattle.gear_parts.specs.Worlds.{gear_tells, GearTells, HandsAndTakes, IsMade, HandsOutGear, world_side, WorldSide}
 use Rattle.gear_parts.specs.declared.order.GearOrder.{GearOrder}
 use Rattle.gear_parts.specs.declared.world.World.{Ghosts as WorldGhosts}
 use Rattle.gear_parts.specs.declared.world.Gear.{Gear}
@@ -23,10 +23,10 @@ pub record AreTaken {D G T K S O C : Type 0} (tells : GearTells D G T K S O C) (
   pub idle : All (λ g. tells.is_idle g.tape) gears
   pub suited : AreSuited (λ number. tells.suits number wanted cfg) 0 gears
 
--- `Takes` for the gear of worker `number`, by what the types of the world and its parts tell.
+-- `HandsOutGear` for the gear of worker `number`, by what the types of the world and its parts tell.
 abbrev pub TakesGear : {W D G T K S O C X E Y Z V : Type 0} → WorldGhosts W D G T K S O C X E Y Z V → DoorGhosts D C X → TapeGhosts T → ClockGhosts K → ℕ → GearOrder → (before after : W) → (gears more : List (Gear D G T K S O)) → Type 0
 TakesGear of_world of_door of_tape of_clock number asked before after gears more =
-    Takes (gear_tells of_world of_door of_tape of_clock) number (wants_of asked) (option_copied asked.cfg) (world_side of_world before) (world_side of_world after) gears more
+    HandsOutGear (gear_tells of_world of_door of_tape of_clock) number (wants_of asked) (option_copied asked.cfg) (world_side of_world before) (world_side of_world after) gears more
 
 -- `AreTaken` for the gears, by what the types tell.
 abbrev pub TakesGears : {W D G T K S O C X E Y Z V : Type 0} → WorldGhosts W D G T K S O C X E Y Z V → DoorGhosts D C X → TapeGhosts T → ClockGhosts K → GearOrder → (before after : W) → List (Gear D G T K S O) → Type 0

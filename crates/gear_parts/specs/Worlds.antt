@@ -99,7 +99,7 @@ gear_tells of_world of_door of_tape of_clock = record {
 }
 
 -- The world handed out one more gear, just made, its tape idle and as it is wanted, which was put after the others.
-pub record Takes {D G T K S O C : Type 0} (tells : GearTells D G T K S O C) (number : ℕ) (wanted : GearWants) (cfg : Option Config) (before after : WorldSide (Gear D G T K S O)) (gears more : List (Gear D G T K S O)) : Type 0 where
+pub record HandsOutGear {D G T K S O C : Type 0} (tells : GearTells D G T K S O C) (number : ℕ) (wanted : GearWants) (cfg : Option Config) (before after : WorldSide (Gear D G T K S O)) (gears more : List (Gear D G T K S O)) : Type 0 where
   pub gear : Gear D G T K S O
   pub added : more ≡ gears ++ gear ∷ []
   pub handed : after.handed ≡ appended before.handed (gear ∷ [])

@@ -1,6 +1,6 @@
 //! The log of a gear while its worker puts rows into it; a gear may have none.
 ghost use Rattle.std.specs.Prelude.{◌≡◌};
-ghost use Rattle.gear_parts.specs.GearLogs.{Gains, GreetsIf, broken_by, log_faults, new_log, sink_of};
+ghost use Rattle.gear_parts.specs.GearLogs.{LogGains, GreetsIf, broken_by, log_faults, new_log, sink_of};
 
 use crate::worker_log::WorkerLog;
 use jk_io::{IoError, NoMemory, Peer};
@@ -52,10 +52,10 @@ impl<'f, O: Timed> GearLog<'f, O> {
 }
 
 impl<'f, O: Timed> RowSink for GearLog<'f, O> {
-    ghost use Rattle.gear_parts.specs.GearLogs.{Gains};
+    ghost use Rattle.gear_parts.specs.GearLogs.{LogGains};
     ghost use Rattle.gear_parts.specs.GearLogRules.{gained_on, nothing_gained};
 
-    ghost gained = { Gains O.Meanings };
+    ghost gained = { LogGains O.Meanings };
 
     ghost has_room = { λ _. Unit {0} };
 

@@ -3,8 +3,8 @@ use Rattle.std.proofs.Common.{◌≡◌, ℕ, suc, ◌+◌, ◌<◌, ◌≤◌, 
 use Rattle.std.proofs.lemmas.Bool.{false≢true, both_ways, false_from_ne_true, cases_Bool, or_cases, and_parts, and_cases, or_left, or_right, cond-true, cond-false, and_from, and_left, and_right}
 use Rattle.std.proofs.lemmas.List.{drop_more, drop_at, take-append-drop, length-take-le, length-drop, length-append, get_or-take, drop-append-le, append_assoc}
 use Rattle.http_front.specs.Cut.{begins_empty, blank_len, head_len, empty_line_len, Cuts}
-use Rattle.http_front.specs.Request.{NoHead, IsOver}
-use Rattle.http_front.specs.Search.{Skipped, Searched, IsSeen, IsWhole, IsPart}
+use Rattle.http_front.specs.Request.{NoHead, IsOverlong}
+use Rattle.http_front.specs.Search.{Skipped, Searched, IsSearched, IsWholeHead, IsPartOfHead}
 
 -- an empty line stays one whatever follows
 pub begins_empty-append : (xs more : List ℕ) → begins_empty xs ≡ true → begins_empty (xs ++ more) ≡ true
@@ -212,7 +212,7 @@ cut-head bytes blank front rest cut =
     ∙ ap head_len (drop_at blank (front ++ rest) (length blank) refl)
     ∙ head_len-append front rest (length front) cut.ends
 
-pub part-none : (bytes : List ℕ) (blank searched : ℕ) → IsPart bytes blank searched → NoHead bytes
+pub part-none : (bytes : List ℕ) (blank searched : ℕ) → IsPartOfHead bytes blank searched → NoHead bytes
 part-none bytes blank searched part b f r cut =
     let same : length b ≡ blank = sym (cut-blank bytes b f r cut) ∙ part.empty in
     let found : head_len (drop blank bytes) ≡ Some (length f) = ap (λ (n : ℕ). head_len (drop n bytes)) (sym same) ∙ cut-head bytes b f r cut in
@@ -229,7 +229,7 @@ skipped-all bytes blank skipped stops =
 
 -- a head has its end in the bytes
 pub whole-made : (bytes front : List ℕ) (blank len : ℕ) → front ≡ drop blank bytes → blank ≤ length bytes → Skipped bytes blank → blank_len (drop blank bytes) ≡ 0
-    → (len ≤ length front) × ((more : List ℕ) → head_len (front ++ more) ≡ Some len) → IsWhole bytes blank len
+    → (len ≤ length front) × ((more : List ℕ) → head_len (front ++ more) ≡ Some len) → IsWholeHead bytes blank len
 whole-made bytes front blank len is fits skipped stops ends =
     let d = drop blank bytes in
     let room : len ≤ length d = omega (arith, ends.0, ap (λ (l : List ℕ). length l) is) in
@@ -248,7 +248,7 @@ whole-made bytes front blank len is fits skipped stops ends =
 
 -- no head has its end in the bytes yet
 pub part-made : (bytes front : List ℕ) (blank at : ℕ) → front ≡ drop blank bytes → blank ≤ length bytes → Skipped bytes blank → blank_len (drop blank bytes) ≡ 0
-    → (at ≤ length front) × (head_len front ≡ None) × Searched front at → IsPart bytes blank at
+    → (at ≤ length front) × (head_len front ≡ None) × Searched front at → IsPartOfHead bytes blank at
 part-made bytes front blank at is fits skipped stops search =
     let P : List ℕ → Type 0 = λ l. Searched l at in
     record {
@@ -262,11 +262,11 @@ part-made bytes front blank at is fits skipped stops search =
     }
 
 -- nothing is seen yet
-pub seen-none : (bytes : List ℕ) → IsSeen bytes 0 0
+pub seen-none : (bytes : List ℕ) → IsSearched bytes 0 0
 seen-none bytes = record { within = omega arith; skipped = λ more. sym (zero-add _); none = Searched-zero bytes }
 
 -- what was seen holds with more bytes after them
-pub seen-more : (bytes came : List ℕ) (blank searched : ℕ) → IsSeen bytes blank searched → IsSeen (bytes ++ came) blank searched
+pub seen-more : (bytes came : List ℕ) (blank searched : ℕ) → IsSearched bytes blank searched → IsSearched (bytes ++ came) blank searched
 seen-more bytes came blank searched seen =
     let left : drop blank (bytes ++ came) ≡ drop blank bytes ++ came = drop-append-le blank bytes came (omega (arith, seen.within)) in
     let behind : drop searched (drop blank bytes ++ came) ≡ drop searched (drop blank bytes) ++ came = drop-append-le searched (drop blank bytes) came (omega (arith, seen.within, length-drop blank bytes)) in
@@ -282,7 +282,7 @@ seen-more bytes came blank searched seen =
     }
 
 -- the limit is reached
-pub over-made : (bytes : List ℕ) (blank searched : ℕ) → IsPart bytes blank searched → length bytes ≡ 16384 → IsOver bytes
+pub over-made : (bytes : List ℕ) (blank searched : ℕ) → IsPartOfHead bytes blank searched → length bytes ≡ 16384 → IsOverlong bytes
 over-made bytes blank searched part full =
     let P : List ℕ → Type 0 = λ l. NoHead l in
     record {

@@ -7,13 +7,13 @@ use Rattle.jk_io.specs.declared.failures.IoError.TheVariants as io
 use Rattle.jk_io.proofs.ToldLaws.{prepended-nil, prepended-prepended}
 use Rattle.http_front.specs.Answer.{UsesHead, UsesEnd, IfRefused}
 use Rattle.http_front.specs.Refusal.{status_of, read_error}
-use Rattle.http_front.specs.Search.{IsWhole, IsPart, IsStop, IsFound}
+use Rattle.http_front.specs.Search.{IsWholeHead, IsPartOfHead, IsStop, IsFoundHead}
 use Rattle.http_front.proofs.CutLemmas.{part-none, over-made}
 use Rattle.httparse.specs.Grammar.{RequestHead}
 use Rattle.http_front.specs.Cut.{header_lines}
 use Rattle.http_front.specs.Fields.{HeaderLine}
 use Rattle.http_front.specs.Judged.{head_of}
-use Rattle.http_front.specs.Makes.{Makes, MakesOf, IsFront}
+use Rattle.http_front.specs.Makes.{Makes, MakesOf, IsHeadFront}
 use Rattle.http_front.specs.Request.{Reads, Refuses, RefusesFront, AreEmptyLines, EndsWithin, IsDecided, judged}
 use Rattle.http_front.specs.declared.answers.Form.{Form}
 use Rattle.http_front.specs.declared.answers.HeadError.{HeadError}
@@ -28,12 +28,12 @@ makes-front front parsed wanted (Err Fault) few reads same makes = makes
 makes-front front parsed wanted (Err NoMemory) few reads same makes = tt
 
 -- the head of the bytes in hand is a head of the client's bytes, which are used up to its end
-pub uses-head : (inbox slice : List ℕ) (blank len : ℕ) (head : Head) (before incoming : Option (List ℕ)) → IsWhole inbox blank len → length inbox ≤ 16384 → slice ≡ take len (drop blank inbox)
-    → IsFront slice head → prepended inbox incoming ≡ before → UsesHead before (prepended (drop (blank + len) inbox) incoming) head
+pub uses-head : (inbox slice : List ℕ) (blank len : ℕ) (head : Head) (before incoming : Option (List ℕ)) → IsWholeHead inbox blank len → length inbox ≤ 16384 → slice ≡ take len (drop blank inbox)
+    → IsHeadFront slice head → prepended inbox incoming ≡ before → UsesHead before (prepended (drop (blank + len) inbox) incoming) head
 uses-head inbox slice blank len head before incoming whole few is front unread =
     let b = take blank inbox in
     let f = take len (drop blank inbox) in
-    let P : List ℕ → Type 0 = λ l. IsFront l head in
+    let P : List ℕ → Type 0 = λ l. IsHeadFront l head in
     let at = subst P is front in
     let room : blank ≤ length inbox = omega (arith, whole.within) in
     let rest : drop len (drop blank inbox) ≡ drop (blank + len) inbox = drop-drop len blank inbox in
@@ -55,7 +55,7 @@ uses-head inbox slice blank len head before incoming whole few is front unread =
     }
 
 -- what the head of the bytes in hand is refused for, the client's bytes are refused for
-pub refuses-head : (inbox slice : List ℕ) (blank len : ℕ) (e : HeadError) → IsWhole inbox blank len → length inbox ≤ 16384 → slice ≡ take len (drop blank inbox)
+pub refuses-head : (inbox slice : List ℕ) (blank len : ℕ) (e : HeadError) → IsWholeHead inbox blank len → length inbox ≤ 16384 → slice ≡ take len (drop blank inbox)
     → MakesOf slice (Err e) → IfRefused (Err e) (λ status form. (status ≡ status_of form) × Refuses inbox form)
 refuses-head inbox slice blank len (Refused status form) whole few is makes =
     let P : List ℕ → Type 0 = λ l. RefusesFront l form in (
@@ -74,7 +74,7 @@ refuses-head inbox slice blank len Fault whole few is makes = tt
 refuses-head inbox slice blank len NoMemory whole few is makes = tt
 
 -- the bytes end within a head
-pub ends-made : (bytes : List ℕ) (blank searched : ℕ) → IsPart bytes blank searched → length bytes < 16384 → (blank ≡ length bytes → ⊥) → EndsWithin bytes
+pub ends-made : (bytes : List ℕ) (blank searched : ℕ) → IsPartOfHead bytes blank searched → length bytes < 16384 → (blank ≡ length bytes → ⊥) → EndsWithin bytes
 ends-made bytes blank searched part short text = record {
   short = short;
   begun = λ full. text (sym part.empty ∙ full);
@@ -85,24 +85,24 @@ pub same-head : (m n t u : List ℕ) (a b : Bool) (l k : List HeaderLine) → m 
 same-head m n t u a b l k p q r s = cc
 
 -- where no head has its end yet and there is room, more bytes are needed
-part-undecided : (bytes : List ℕ) (blank searched : ℕ) → IsPart bytes blank searched → length bytes < 16384 → IsDecided bytes → ⊥
+part-undecided : (bytes : List ℕ) (blank searched : ℕ) → IsPartOfHead bytes blank searched → length bytes < 16384 → IsDecided bytes → ⊥
 part-undecided bytes blank searched part short (inl head) = part-none bytes blank searched part head.blank head.front head.rest head.cut
 part-undecided bytes blank searched part short (inr long) = absurd (omega (arith, short, long))
 
-pub part-awaits : (bytes slice first : List ℕ) (blank searched : ℕ) → IsPart slice blank searched → slice ≡ bytes → bytes ≡ first → length bytes < 16384 → IsDecided first → ⊥
+pub part-awaits : (bytes slice first : List ℕ) (blank searched : ℕ) → IsPartOfHead slice blank searched → slice ≡ bytes → bytes ≡ first → length bytes < 16384 → IsDecided first → ⊥
 part-awaits bytes slice first blank searched part value same short decided =
-    let P : List ℕ → Type 0 = λ l. IsPart l blank searched in
+    let P : List ℕ → Type 0 = λ l. IsPartOfHead l blank searched in
     let Q : List ℕ → Type 0 = λ l. IsDecided l in
     part-undecided bytes blank searched (subst P value part) short (subst Q (sym same) decided)
 
 -- a part that decides fills the inbox
-decided-full : (bytes : List ℕ) (blank searched : ℕ) → IsPart bytes blank searched → IsDecided bytes → 16384 ≤ length bytes
+decided-full : (bytes : List ℕ) (blank searched : ℕ) → IsPartOfHead bytes blank searched → IsDecided bytes → 16384 ≤ length bytes
 decided-full bytes blank searched part (inl head) = absurd (part-none bytes blank searched part head.blank head.front head.rest head.cut)
 decided-full bytes blank searched part (inr long) = long
 
-pub part-full : (bytes slice first : List ℕ) (blank searched : ℕ) → IsPart slice blank searched → slice ≡ bytes → bytes ≡ first → IsDecided first → 16384 ≤ length bytes
+pub part-full : (bytes slice first : List ℕ) (blank searched : ℕ) → IsPartOfHead slice blank searched → slice ≡ bytes → bytes ≡ first → IsDecided first → 16384 ≤ length bytes
 part-full bytes slice first blank searched part value same decided =
-    let P : List ℕ → Type 0 = λ l. IsPart l blank searched in
+    let P : List ℕ → Type 0 = λ l. IsPartOfHead l blank searched in
     let Q : List ℕ → Type 0 = λ l. IsDecided l in
     decided-full bytes blank searched (subst P value part) (subst Q (sym same) decided)
 
@@ -115,12 +115,12 @@ stop-read bytes error e is short = subst (λ (x : HeadError). IsStop bytes x) (s
     by_error io.NoMemory = tt
 
 -- where no more is read, the limit is reached, or a read was refused
-pub stop-found : (bytes slice now : List ℕ) (blank searched : ℕ) (e : HeadError) → IsPart slice blank searched → slice ≡ bytes → IsStop bytes e → now ≡ bytes → IsFound now (Err e)
+pub stop-found : (bytes slice now : List ℕ) (blank searched : ℕ) (e : HeadError) → IsPartOfHead slice blank searched → slice ≡ bytes → IsStop bytes e → now ≡ bytes → IsFoundHead now (Err e)
 stop-found bytes slice now blank searched e part value stop same =
-    subst (λ (l : List ℕ). IsFound l (Err e)) (sym same) (by_stop e stop)
+    subst (λ (l : List ℕ). IsFoundHead l (Err e)) (sym same) (by_stop e stop)
   where
-    by_stop : (x : HeadError) → IsStop bytes x → IsFound bytes (Err x)
-    by_stop (Refused status form) why = (why.0, why.1, over-made bytes blank searched (subst (λ (l : List ℕ). IsPart l blank searched) value part) why.2)
+    by_stop : (x : HeadError) → IsStop bytes x → IsFoundHead bytes (Err x)
+    by_stop (Refused status form) why = (why.0, why.1, over-made bytes blank searched (subst (λ (l : List ℕ). IsPartOfHead l blank searched) value part) why.2)
     by_stop Truncated why = absurd why
     by_stop Fault why = tt
     by_stop NoMemory why = tt

@@ -43,9 +43,9 @@ IfRefused (Err Fault) P = ⊤
 IfRefused (Err NoMemory) P = ⊤
 
 -- no read failed: the answer is by the client's bytes alone, or memory was wanted
-abbrev pub IsCalm : {T : Type 0} → Result T HeadError → Type 0
-IsCalm (Ok value) = ⊤
-IsCalm (Err (Refused status form)) = ⊤
-IsCalm (Err Truncated) = ⊤
-IsCalm (Err Fault) = ⊥
-IsCalm (Err NoMemory) = ⊤
+abbrev pub IsCalmHead : {T : Type 0} → Result T HeadError → Type 0
+IsCalmHead (Ok value) = ⊤
+IsCalmHead (Err (Refused status form)) = ⊤
+IsCalmHead (Err Truncated) = ⊤
+IsCalmHead (Err Fault) = ⊥
+IsCalmHead (Err NoMemory) = ⊤

@@ -19,6 +19,6 @@ IsNoFailure fault.Fault = ⊥
 IsNoFailure fault.NoMemory = ⊤
 
 -- the answer tells of no read that failed
-abbrev pub IsCalm : {T : Type 0} → Result T BodyFault → Type 0
-IsCalm (Ok value) = ⊤
-IsCalm (Err why) = IsNoFailure why
+abbrev pub IsCalmBody : {T : Type 0} → Result T BodyFault → Type 0
+IsCalmBody (Ok value) = ⊤
+IsCalmBody (Err why) = IsNoFailure why

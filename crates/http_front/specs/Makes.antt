@@ -18,7 +18,7 @@ Makes wanted (Err Fault) = ⊥
 Makes wanted (Err NoMemory) = ⊤
 
 -- what the bytes of a head are
-pub record IsFront (front : List ℕ) (head : Head) : Type 0 where
+pub record IsHeadFront (front : List ℕ) (head : Head) : Type 0 where
   pub few : header_lines front ≤ 100
   pub parsed : RequestHead
   pub reads : Reads front parsed
@@ -26,7 +26,7 @@ pub record IsFront (front : List ℕ) (head : Head) : Type 0 where
 
 -- the head that the bytes are, or what they are refused for
 abbrev pub MakesOf : List ℕ → Result Head HeadError → Type 0
-MakesOf front (Ok head) = IsFront front head
+MakesOf front (Ok head) = IsHeadFront front head
 MakesOf front (Err (Refused status form)) = (status ≡ status_of form) × RefusesFront front form
 MakesOf front (Err Truncated) = ⊥
 MakesOf front (Err Fault) = ⊥

@@ -59,13 +59,13 @@ abbrev pub NoHead : List ℕ → Type 0
 NoHead bytes = (blank front rest : List ℕ) → Cuts bytes blank front rest → ⊥
 
 -- the first 16,384 bytes don't hold the head's empty line
-pub record IsOver (bytes : List ℕ) : Type 0 where
+pub record IsOverlong (bytes : List ℕ) : Type 0 where
   pub long : 16384 ≤ length bytes
   pub none : NoHead (take 16384 bytes)
 
 -- what the bytes are refused for
 abbrev pub Refuses : List ℕ → Form → Type 0
-Refuses bytes form = RefusesHead bytes form ⊎ ((form ≡ TooBig) × IsOver bytes)
+Refuses bytes form = RefusesHead bytes form ⊎ ((form ≡ TooBig) × IsOverlong bytes)
 
 -- fewer than 16,384 bytes, which are empty lines
 pub record AreEmptyLines (bytes : List ℕ) : Type 0 where

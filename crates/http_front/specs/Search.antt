@@ -2,7 +2,7 @@
 use Rattle.std.specs.Prelude.{ℕ, ◌≡◌, ◌+◌, ◌≤◌, ◌<◌, List, ◌++◌, length, take, drop, Some, None, Result, Ok, Err, ⊤}
 use Rattle.std.specs.Option.{option_map}
 use Rattle.http_front.specs.Cut.{Cuts, blank_len, head_len}
-use Rattle.http_front.specs.Request.{AreEmptyLines, EndsWithin, IsOver}
+use Rattle.http_front.specs.Request.{AreEmptyLines, EndsWithin, IsOverlong}
 use Rattle.http_front.specs.declared.cut.Search.{Search}
 use Rattle.http_front.specs.declared.cut.Search.TheVariants.{Ends, Open}
 use Rattle.http_front.specs.declared.reading.Look.{Look}
@@ -27,26 +27,26 @@ IsSearchOf front (Ends n) = (n ≤ length front) × ((more : List ℕ) → head_
 IsSearchOf front (Open at) = (at ≤ length front) × (head_len front ≡ None) × Searched front at
 
 -- this many bytes are empty lines, and this many after them were searched
-pub record IsSeen (bytes : List ℕ) (blank searched : ℕ) : Type 0 where
+pub record IsSearched (bytes : List ℕ) (blank searched : ℕ) : Type 0 where
   pub within : blank + searched ≤ length bytes
   pub skipped : Skipped bytes blank
   pub none : Searched (drop blank bytes) searched
 
 -- a head of len bytes stands after blank bytes of empty lines
-pub record IsWhole (bytes : List ℕ) (blank len : ℕ) : Type 0 where
+pub record IsWholeHead (bytes : List ℕ) (blank len : ℕ) : Type 0 where
   pub within : blank + len ≤ length bytes
   pub cut : Cuts bytes (take blank bytes) (take len (drop blank bytes)) (drop len (drop blank bytes))
 
 -- no head has its end in bytes
-pub record IsPart (bytes : List ℕ) (blank searched : ℕ) : Type 0 where
-  pub seen : IsSeen bytes blank searched
+pub record IsPartOfHead (bytes : List ℕ) (blank searched : ℕ) : Type 0 where
+  pub seen : IsSearched bytes blank searched
   pub empty : blank_len bytes ≡ blank
   pub open_end : head_len (drop blank bytes) ≡ None
 
 -- what a look at the bytes says
 abbrev pub IsLook : List ℕ → Look → Type 0
-IsLook bytes (Whole blank len) = IsWhole bytes blank len
-IsLook bytes (Part blank searched) = IsPart bytes blank searched
+IsLook bytes (Whole blank len) = IsWholeHead bytes blank len
+IsLook bytes (Part blank searched) = IsPartOfHead bytes blank searched
 
 -- why no more of a head is read after these bytes
 abbrev pub IsStop : List ℕ → HeadError → Type 0
@@ -56,13 +56,13 @@ IsStop bytes error.Fault = length bytes < 16384
 IsStop bytes error.NoMemory = ⊤
 
 -- what the bytes that were read say
-abbrev pub IsFound : List ℕ → Result Found HeadError → Type 0
-IsFound bytes (Ok (found.Head blank len)) = IsWhole bytes blank len
-IsFound bytes (Ok found.End) = AreEmptyLines bytes
-IsFound bytes (Err (error.Refused status form)) = (status ≡ 431) × (form ≡ TooBig) × IsOver bytes
-IsFound bytes (Err error.Truncated) = EndsWithin bytes
-IsFound bytes (Err error.Fault) = ⊤
-IsFound bytes (Err error.NoMemory) = ⊤
+abbrev pub IsFoundHead : List ℕ → Result Found HeadError → Type 0
+IsFoundHead bytes (Ok (found.Head blank len)) = IsWholeHead bytes blank len
+IsFoundHead bytes (Ok found.End) = AreEmptyLines bytes
+IsFoundHead bytes (Err (error.Refused status form)) = (status ≡ 431) × (form ≡ TooBig) × IsOverlong bytes
+IsFoundHead bytes (Err error.Truncated) = EndsWithin bytes
+IsFoundHead bytes (Err error.Fault) = ⊤
+IsFoundHead bytes (Err error.NoMemory) = ⊤
 
 -- the client's bytes have ended
 abbrev pub HasEnded : Result Found HeadError → Type 0

@@ -39,7 +39,7 @@ abbrev pub StaysBelow : BodyIn → List ℕ → Type 0
 StaysBelow body data' = IsUnder (most_of body) (taken_of body) (place_of body) data'
 
 -- the bytes that were used are the body's own and bring this data, and nothing failed
-pub record GoesOn (before after : BodyMoment) (data' : List ℕ) : Type 0 where
+pub record BringsData (before after : BodyMoment) (data' : List ℕ) : Type 0 where
   pub uses : Uses (unread_at before) (unread_at after) (place_of before.body) (place_of after.body) data'
   pub taken : taken_of after.body ≡ counted (taken_of before.body) (length data')
   pub below : StaysBelow before.body data'
@@ -51,7 +51,7 @@ pub record GoesOn (before after : BodyMoment) (data' : List ℕ) : Type 0 where
 
 -- the piece is the next n bytes of data, or all that are left
 pub record TakesPiece (before after : BodyMoment) (n : ℕ) (piece : List ℕ) : Type 0 where
-  pub on : GoesOn before after piece
+  pub on : BringsData before after piece
   pub next : IfSome (data_at before) (λ d. (piece ≡ take n d.bytes) × IsTrue (reaches n d))
   pub within : length piece ≤ n
   pub left : data_at after ≡ dropped n (data_at before)
@@ -60,7 +60,7 @@ pub record TakesPiece (before after : BodyMoment) (n : ℕ) (piece : List ℕ) :
 -- the rest of the body was read, and its data dropped
 pub record PassesRest (before after : BodyMoment) : Type 0 where
   pub data' : List ℕ
-  pub on : GoesOn before after data'
+  pub on : BringsData before after data'
   pub over : is_whole (place_of after.body) ≡ true
   pub left : IfSome (data_at before) (λ d. (d.whole ≡ true) × (taken_of after.body ≡ counted (taken_of before.body) (length d.bytes)))
   pub limit : is_limited (place_of before.body) ≡ true → taken_of after.body < most_of before.body

@@ -1,10 +1,10 @@
 //! `read_head`: the next head of a client's bytes.
 ghost use Rattle.std.specs.Prelude.{◌≡◌, ◌≤◌, ◌<◌, ◌++◌, ℕ, List, Option, Ok, length, IfOk, IfErr, OnErr, IsErrOf};
 ghost use Rattle.jk_io.specs.Told.{IsEmpty, Rose};
-ghost use Rattle.http_front.specs.Answer.{UsesHead, UsesEnd, IfHead, OnEnd, IfRefused, IsCalm};
+ghost use Rattle.http_front.specs.Answer.{UsesHead, UsesEnd, IfHead, OnEnd, IfRefused, IsCalmHead};
 ghost use Rattle.http_front.specs.Refusal.{status_of};
 ghost use Rattle.http_front.specs.Request.{Refuses, EndsWithin, IsDecided};
-ghost use Rattle.http_front.specs.Search.{IsSeen, IsPart, IsLook, IsStop, IsFound, HasEnded};
+ghost use Rattle.http_front.specs.Search.{IsSearched, IsPartOfHead, IsLook, IsStop, IsFoundHead, HasEnded};
 ghost use Rattle.http_front.specs.Unread.{unread};
 
 use crate::answers::{Form, HeadError, HeadGot};
@@ -35,7 +35,7 @@ pub enum Found {
 
 /// Looks for a head in the bytes, from what an earlier look at fewer of them saw.
 fn look_at(bytes: &[u8], blank: usize, searched: usize) -> Look
-    requires { IsSeen bytes.now blank searched }
+    requires { IsSearched bytes.now blank searched }
     ensures { IsLook bytes.now result }
 {
     let begin = skip_empty_lines(bytes, blank);
@@ -57,7 +57,7 @@ fn read_on<C: Link>(inbox: &mut Inbox, client: &mut C) -> Result<usize, HeadErro
     ensures stopped { IfErr result (IsStop inbox.old) }
     ensures err { OnErr result (inbox.new ≡ inbox.old) }
     ensures fault { IsErrOf result HeadError.Fault → Rose (C.faults client.old) (C.faults client.new) }
-    ensures steady { IsCalm result → C.faults client.new ≡ C.faults client.old }
+    ensures steady { IsCalmHead result → C.faults client.new ≡ C.faults client.old }
     ensures unasked { MAX_HEAD_BYTES ≤ length inbox.old → client.new ≡ client.old }
     ensures unread { unread inbox.new (C.incoming client.new) ≡ unread inbox.old (C.incoming client.old) }
     ensures same { (C.sent client.new ≡ C.sent client.old) × (C.beside client.new ≡ C.beside client.old) }
@@ -74,9 +74,9 @@ fn read_on<C: Link>(inbox: &mut Inbox, client: &mut C) -> Result<usize, HeadErro
 
 /// What stands where the bytes end and no head has its end: empty lines alone, or the front of a head.
 fn end_at(bytes: &[u8], blank: usize) -> Result<Found, HeadError>
-    requires part { (searched : ℕ) × IsPart bytes.now blank searched }
+    requires part { (searched : ℕ) × IsPartOfHead bytes.now blank searched }
     requires short { length bytes.now < MAX_HEAD_BYTES }
-    ensures found { IsFound bytes.now result }
+    ensures found { IsFoundHead bytes.now result }
     ensures ended { HasEnded result }
     ensures no_fault { IsErrOf result HeadError.Fault → ⊥ }
 {
@@ -89,11 +89,11 @@ fn end_at(bytes: &[u8], blank: usize) -> Result<Found, HeadError>
 
 /// Reads until a head has its end in the inbox, the bytes end, or the limit is reached.
 fn find_head<C: Link>(inbox: &mut Inbox, client: &mut C) -> Result<Found, HeadError>
-    ensures found { IsFound inbox.new result }
+    ensures found { IsFoundHead inbox.new result }
     ensures ended { HasEnded result → IsEmpty (C.incoming client.new) }
     ensures fault { IsErrOf result HeadError.Fault → Rose (C.faults client.old) (C.faults client.new) }
     ensures awaited { IsErrOf result HeadError.Fault → IsDecided inbox.new → ⊥ }
-    ensures steady { IsCalm result → C.faults client.new ≡ C.faults client.old }
+    ensures steady { IsCalmHead result → C.faults client.new ≡ C.faults client.old }
     ensures unasked { IsDecided inbox.old → client.new ≡ client.old }
     ensures unread { unread inbox.new (C.incoming client.new) ≡ unread inbox.old (C.incoming client.old) }
     ensures same { (C.sent client.new ≡ C.sent client.old) × (C.beside client.new ≡ C.beside client.old) }
@@ -122,7 +122,7 @@ fn find_head<C: Link>(inbox: &mut Inbox, client: &mut C) -> Result<Found, HeadEr
 
 /// Takes what was found from the front of the inbox.
 fn take_found(alloc: Global, inbox: &mut Inbox, found: Found) -> Result<HeadGot, HeadError>
-    requires { IsFound inbox.old (Ok found) }
+    requires { IsFoundHead inbox.old (Ok found) }
     ensures head { (more : Option (List ℕ)) → IfHead result (UsesHead (unread inbox.old more) (unread inbox.new more)) }
     ensures end { (more : Option (List ℕ)) → (HasEnded (Ok found) → IsEmpty more)
         → OnEnd result (UsesEnd (unread inbox.old more) (unread inbox.new more)) }
@@ -164,7 +164,7 @@ pub fn read_head<C: Link>(
     // a read that fails was needed.
     ensures unasked { IsDecided inbox.old → client.new ≡ client.old }
     ensures awaited { IsErrOf result HeadError.Fault → IsDecided inbox.new → ⊥ }
-    ensures steady { IsCalm result → C.faults client.new ≡ C.faults client.old }
+    ensures steady { IsCalmHead result → C.faults client.new ≡ C.faults client.old }
 
     ensures same { (C.sent client.new ≡ C.sent client.old) × (C.beside client.new ≡ C.beside client.old) }
     ensures no_fewer { C.faults client.old ≤ C.faults client.new }

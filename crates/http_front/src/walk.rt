@@ -5,7 +5,7 @@ ghost use Rattle.http_front.specs.Unread.{unread};
 ghost use Rattle.http_front.specs.Body.{Uses, is_over, place_behind, data_from};
 ghost use Rattle.http_front.specs.Places.{data_left};
 ghost use Rattle.http_front.specs.Falls.{framing_left, exact_left};
-ghost use Rattle.http_front.specs.Faults.{IsCalm};
+ghost use Rattle.http_front.specs.Faults.{IsCalmBody};
 ghost use Rattle.http_front.specs.Walks.{Walks, Fails, Passes, Breaks, IsDropped, IsPut, is_reached};
 ghost use Rattle.http_front.specs.Wants.{Next, Rest, settles};
 
@@ -47,7 +47,7 @@ pub fn fill_piece<C: Link>(
     ensures err { IfErr result (Fails most taken (length piece.new) (unread inbox.old (C.incoming client.old))
         (unread inbox.new (C.incoming client.new)) start) }
     ensures fault { IsErrOf result BodyFault.Fault → Rose (C.faults client.old) (C.faults client.new) }
-    ensures steady { IsCalm result → C.faults client.new ≡ C.faults client.old }
+    ensures steady { IsCalmBody result → C.faults client.new ≡ C.faults client.old }
     ensures unasked { IsTrue (settles (Next (length piece.old)) start most taken inbox.old)
         → client.new ≡ client.old }
     ensures same { (C.sent client.new ≡ C.sent client.old) × (C.beside client.new ≡ C.beside client.old) }
@@ -92,7 +92,7 @@ pub fn pass_body<C: Link>(
     ensures err { IfErr result (Breaks most taken (unread inbox.old (C.incoming client.old))
         (unread inbox.new (C.incoming client.new)) start) }
     ensures fault { IsErrOf result BodyFault.Fault → Rose (C.faults client.old) (C.faults client.new) }
-    ensures steady { IsCalm result → C.faults client.new ≡ C.faults client.old }
+    ensures steady { IsCalmBody result → C.faults client.new ≡ C.faults client.old }
     ensures unasked { IsTrue (settles Rest start most taken inbox.old) → client.new ≡ client.old }
     ensures same { (C.sent client.new ≡ C.sent client.old) × (C.beside client.new ≡ C.beside client.old) }
     ensures no_fewer { C.faults client.old ≤ C.faults client.new }
@@ -173,7 +173,7 @@ fn await_byte<C: Link>(inbox: &mut Inbox, client: &mut C) -> Result<(), BodyFaul
     ensures end { IsErrOf result BodyFault.Truncated → IsEmpty (unread inbox.new (C.incoming client.new)) }
     ensures kind { (result ≢ Err BodyFault.BadChunk) × (result ≢ Err BodyFault.TooLong) }
     ensures fault { IsErrOf result BodyFault.Fault → Rose (C.faults client.old) (C.faults client.new) }
-    ensures steady { IsCalm result → C.faults client.new ≡ C.faults client.old }
+    ensures steady { IsCalmBody result → C.faults client.new ≡ C.faults client.old }
     ensures unasked { 0 < length inbox.old → client.new ≡ client.old }
     ensures same { (C.sent client.new ≡ C.sent client.old) × (C.beside client.new ≡ C.beside client.old) }
     ensures no_fewer { C.faults client.old ≤ C.faults client.new }
@@ -205,7 +205,7 @@ fn pass_framing<C: Link>(
     ensures end { IsErrOf result BodyFault.Truncated → IsEmpty (unread inbox.new (C.incoming client.new)) }
     ensures kind { (result ≢ Err BodyFault.BadChunk) × (result ≢ Err BodyFault.TooLong) }
     ensures fault { IsErrOf result BodyFault.Fault → Rose (C.faults client.old) (C.faults client.new) }
-    ensures steady { IsCalm result → C.faults client.new ≡ C.faults client.old }
+    ensures steady { IsCalmBody result → C.faults client.new ≡ C.faults client.old }
     ensures unasked { 0 < length inbox.old → client.new ≡ client.old }
     ensures same { (C.sent client.new ≡ C.sent client.old) × (C.beside client.new ≡ C.beside client.old) }
     ensures no_fewer { C.faults client.old ≤ C.faults client.new }
@@ -225,7 +225,7 @@ fn drop_data<C: Link>(left: u64, inbox: &mut Inbox, client: &mut C) -> Result<u6
     ensures end { IsErrOf result BodyFault.Truncated → IsEmpty (unread inbox.new (C.incoming client.new)) }
     ensures kind { (result ≢ Err BodyFault.BadChunk) × (result ≢ Err BodyFault.TooLong) }
     ensures fault { IsErrOf result BodyFault.Fault → Rose (C.faults client.old) (C.faults client.new) }
-    ensures steady { IsCalm result → C.faults client.new ≡ C.faults client.old }
+    ensures steady { IsCalmBody result → C.faults client.new ≡ C.faults client.old }
     ensures unasked { 0 < length inbox.old → client.new ≡ client.old }
     ensures same { (C.sent client.new ≡ C.sent client.old) × (C.beside client.new ≡ C.beside client.old) }
     ensures no_fewer { C.faults client.old ≤ C.faults client.new }
@@ -252,7 +252,7 @@ fn take_data<C: Link>(
     ensures end { IsErrOf result BodyFault.Truncated → IsEmpty (unread inbox.new (C.incoming client.new)) }
     ensures kind { (result ≢ Err BodyFault.BadChunk) × (result ≢ Err BodyFault.TooLong) }
     ensures fault { IsErrOf result BodyFault.Fault → Rose (C.faults client.old) (C.faults client.new) }
-    ensures steady { IsCalm result → C.faults client.new ≡ C.faults client.old }
+    ensures steady { IsCalmBody result → C.faults client.new ≡ C.faults client.old }
     ensures unasked { 0 < length inbox.old → client.new ≡ client.old }
     ensures same { (C.sent client.new ≡ C.sent client.old) × (C.beside client.new ≡ C.beside client.old) }
     ensures no_fewer { C.faults client.old ≤ C.faults client.new }

@@ -9,7 +9,7 @@ use Rattle.http_out.specs.declared.reply_head.OutError.{OutError}
 use Rattle.http_out.specs.declared.reply_head.OutError.TheVariants as Out
 use Rattle.http_out.specs.Framing.{framed, is_passed, closing_bytes, spent, is_beyond, is_complete}
 use Rattle.http_out.specs.Passage.{IsSent}
-use Rattle.http_out.specs.Writer.{Writer, IsStep, IsEndStep, IsChunkStep, IsOpen, after_bytes, after_chunk, writes_chunk, framing_now}
+use Rattle.http_out.specs.Writer.{Writer, IsStep, IsEndStep, IsChunkStep, IsOpenReply, after_bytes, after_chunk, writes_chunk, framing_now}
 
 -- the writer with these parts
 abbrev pub writer_with : RequestKind → Framing → List ℕ → Passage → Bool → Writer
@@ -43,14 +43,14 @@ chunk_step kind f held chunk p q ended sent now r within fine passes s =
     rw (within, fine, passes) (rw fine at (sent_step kind f (spent f (length chunk)) held (held ++ framed f chunk) ended ended p q sent now r fine s))
 
 -- a chunk leaves the reply open
-pub open-after_chunk : (w : Writer) (chunk : List ℕ) → IsOpen w → IsOpen (after_chunk w chunk)
+pub open-after_chunk : (w : Writer) (chunk : List ℕ) → IsOpenReply w → IsOpenReply (after_chunk w chunk)
 open-after_chunk w chunk h =
-    elim (cases_Bool (writes_chunk w chunk)) as (λ _. IsOpen (after_chunk w chunk)) [
+    elim (cases_Bool (writes_chunk w chunk)) as (λ _. IsOpenReply (after_chunk w chunk)) [
       | inl writes ↦ rw writes (record { framing = spent (framing_now w) (length chunk); given = refl; goes_on = h.goes_on })
       | inr none ↦ rw none (record { framing = spent (framing_now w) (length chunk); given = refl; goes_on = h.goes_on })
     ]
 
-pub open-from_step : (w now : Writer) (chunk : List ℕ) (sent sent_now : Option (List ℕ)) (r : Result Unit OutError) → IsOpen w
-    → IsChunkStep w chunk now sent sent_now r → OnOk r (IsOpen now)
+pub open-from_step : (w now : Writer) (chunk : List ℕ) (sent sent_now : Option (List ℕ)) (r : Result Unit OutError) → IsOpenReply w
+    → IsChunkStep w chunk now sent sent_now r → OnOk r (IsOpenReply now)
 open-from_step w now chunk sent sent_now (Ok u) h s = rw s.1 (open-after_chunk w chunk h)
 open-from_step w now chunk sent sent_now (Err e) h s = tt

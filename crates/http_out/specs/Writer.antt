@@ -25,7 +25,7 @@ abbrev pub new_writer : RequestKind → Writer
 new_writer kind = record { kind = kind; framing = None; held = []; passed = false; failed = false; ended = false }
 
 -- a head was given, and the reply was not ended
-pub record IsOpen (w : Writer) : Type 0 where
+pub record IsOpenReply (w : Writer) : Type 0 where
   pub framing : Framing
   pub given : w.framing ≡ Some framing
   pub goes_on : w.ended ≡ false
@@ -91,12 +91,12 @@ IsEndStep w now sent sent_now result =
     IsStep (not (is_complete (framing_now w))) (end_bytes w) w (closed w) (after_end w) now sent sent_now result
 
 -- a head is taken exactly where it may go to a client
-abbrev pub IsJudged : ReplyHead → Writer → Writer → Result Unit OutError → Type 0
-IsJudged h w now (Ok _) = IsReplyHead h × (now ≡ after_head w h)
-IsJudged h w now (Err Out.BadReply) = (¬ (IsReplyHead h)) × (now ≡ w)
-IsJudged h w now (Err Out.NoMemory) = now ≡ w
-IsJudged h w now (Err Out.Disagree) = ⊥
-IsJudged h w now (Err Out.Fault) = ⊥
+abbrev pub IsJudgedReplyHead : ReplyHead → Writer → Writer → Result Unit OutError → Type 0
+IsJudgedReplyHead h w now (Ok _) = IsReplyHead h × (now ≡ after_head w h)
+IsJudgedReplyHead h w now (Err Out.BadReply) = (¬ (IsReplyHead h)) × (now ≡ w)
+IsJudgedReplyHead h w now (Err Out.NoMemory) = now ≡ w
+IsJudgedReplyHead h w now (Err Out.Disagree) = ⊥
+IsJudgedReplyHead h w now (Err Out.Fault) = ⊥
 
 -- how the body is framed after these chunks, the newest first
 abbrev pub framing_after : Framing → List (List ℕ) → Framing

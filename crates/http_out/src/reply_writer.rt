@@ -2,7 +2,7 @@
 ghost use Rattle.std.specs.Prelude.{◌≡◌, ◌≤◌, None, OnOk, IsErrOf};
 ghost use Rattle.jk_io.specs.Told.{Rose};
 ghost use Rattle.http_out.specs.Passage.{IsCalm};
-ghost use Rattle.http_out.specs.Writer.{new_writer, IsJudged, IsOpen, IsChunkStep, IsEndStep};
+ghost use Rattle.http_out.specs.Writer.{new_writer, IsJudgedReplyHead, IsOpenReply, IsChunkStep, IsEndStep};
 
 use crate::framing::{Framing, RequestKind, framing_of};
 use crate::head_text::head_text;
@@ -62,7 +62,7 @@ impl ReplyWriter {
     /// Takes the container's head. Nothing is written yet.
     pub fn headers(&mut self, head: ReplyHead) -> Result<(), OutError>
         requires { self.old.framing ≡ None }
-        ensures { IsJudged head self.old self.new result }
+        ensures { IsJudgedReplyHead head self.old self.new result }
     {
         let said = judge(&head)?;
         let framing = framing_of(self.kind, head.status, said);
@@ -73,10 +73,10 @@ impl ReplyWriter {
 
     /// Passes a chunk on. Where it goes beyond the length that the head announced, nothing is written.
     pub fn chunk<C: Sink>(&mut self, bytes: &[u8], client: &mut C) -> Result<(), OutError>
-        requires { IsOpen self.old }
+        requires { IsOpenReply self.old }
 
         ensures step { IsChunkStep self.old bytes.now self.new (C.sent client.old) (C.sent client.new) result }
-        ensures goes_on { OnOk result (IsOpen self.new) }
+        ensures goes_on { OnOk result (IsOpenReply self.new) }
         ensures same { (C.incoming client.new ≡ C.incoming client.old) × (C.received client.new ≡ C.received client.old)
             × (C.beside client.new ≡ C.beside client.old) }
         ensures no_fewer { C.faults client.old ≤ C.faults client.new }
@@ -99,7 +99,7 @@ impl ReplyWriter {
     /// Ends the reply: what is held goes out, and the last chunk of a chunked body, and the client is flushed. Where less
     /// than the announced length came, nothing is written.
     pub fn end<C: Sink>(&mut self, client: &mut C) -> Result<(), OutError>
-        requires { IsOpen self.old }
+        requires { IsOpenReply self.old }
 
         ensures step { IsEndStep self.old self.new (C.sent client.old) (C.sent client.new) result }
         ensures same { (C.incoming client.new ≡ C.incoming client.old) × (C.received client.new ≡ C.received client.old)

@@ -6,7 +6,7 @@ use Rattle.jk_cli.specs.declared.order.Order.{Order}
 use Rattle.jk_cli.specs.declared.order.Order.TheVariants as order
 use Rattle.jk_cli.specs.declared.order.WordsError.{WordsError}
 use Rattle.jk_io.specs.Told.{Rose}
-use Rattle.jk_server.specs.Commands.{CommandSide, ContainsLinks, Formatted, NoFormat, RunsContainer, RunsLogged, Serves, ServesFiles, Unformatted, Unread, Refused, Served, Works, WritesLine, NoGear, NoRoom, Ran}
+use Rattle.jk_server.specs.Commands.{CommandSide, ContainsLinks, Formatted, NoFormat, RunsContainer, RunsLogged, DoesServe, ServesFiles, Unformatted, Unread, Refused, Served, Works, WritesLine, NoGear, NoRoom, Ran}
 use Rattle.jk_server.specs.Ends.{end_of_closing, end_of_container, end_of_run}
 use Rattle.gear_parts.specs.Wants.{GearWants}
 use Rattle.gear_parts.specs.Worlds.{Tells, WorldSide}
@@ -91,7 +91,7 @@ files_status told outside workers map format threads wanted s n ended k (Served 
     (logged_status told w.cfg w.rules format threads wanted s.world n.world ended k) w.works e)
 
 serve_status : {W G C S O X Z L : Type 0} (told : Tells W G C S O X Z) (outside : CommandOutside) (workers map text : List ℕ) (threads : ℕ) (wanted : GearWants) (s n : CommandSide G) (ended : CommandEnd L) (k : ℕ)
-    → Serves told outside workers map text threads wanted s n ended → ended ≡ server.Status k → Answered s n k
+    → DoesServe told outside workers map text threads wanted s n ended → ended ≡ server.Status k → Answered s n k
 unfolding IsOfRun Answered
 serve_status told outside workers map text threads wanted s n ended k (NoFormat w) e = let status = w.status in inl (inr (inr cc))
 serve_status told outside workers map text threads wanted s n ended k (Unformatted w) e = line_status s n (refusal_line w.at) ended k w.written e
@@ -105,7 +105,7 @@ served_status (server.Stray stray) k e = cc
 
 -- a call of `serve` never ends with the status of words that are no command
 pub serve_done : {W G C S O X Z L : Type 0} (told : Tells W G C S O X Z) (outside : CommandOutside) (workers map text : List ℕ) (threads : ℕ) (wanted : GearWants) (s n : CommandSide G) (by : CommandEnd L) (ended : EndOf L)
-    → Serves told outside workers map text threads wanted s n by → ended ≡ jkd_end by → ended ≢ end.Status 2
+    → DoesServe told outside workers map text threads wanted s n by → ended ≡ jkd_end by → ended ≢ end.Status 2
 unfolding IsOfRun Answered
 serve_done told outside workers map text threads wanted s n by ended serves turned e =
     elim (serve_status told outside workers map text threads wanted s n by 2 serves (served_status by 2 (sym turned ∙ e))) [
@@ -115,7 +115,7 @@ serve_done told outside workers map text threads wanted s n by ended serves turn
 
 -- it ends with status 5 only where the output's faults rose
 pub serve_lose : {W G C S O X Z L : Type 0} (told : Tells W G C S O X Z) (outside : CommandOutside) (workers map text : List ℕ) (threads : ℕ) (wanted : GearWants) (s n : CommandSide G) (by : CommandEnd L) (ended : EndOf L)
-    → Serves told outside workers map text threads wanted s n by → ended ≡ jkd_end by → ended ≡ end.Status 5 → Rose s.output_faults n.output_faults
+    → DoesServe told outside workers map text threads wanted s n by → ended ≡ jkd_end by → ended ≡ end.Status 5 → Rose s.output_faults n.output_faults
 unfolding IsOfRun Answered
 serve_lose told outside workers map text threads wanted s n by ended serves turned e =
     elim (serve_status told outside workers map text threads wanted s n by 5 serves (served_status by 5 (sym turned ∙ e))) [

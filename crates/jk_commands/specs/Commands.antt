@@ -6,7 +6,7 @@ use Rattle.drill.specs.Written.{RunsDrill}
 use Rattle.drill.specs.declared.writing.DrillEnd.{DrillEnd}
 use Rattle.jk_cli.specs.declared.order.Order.{Order}
 use Rattle.jk_cli.specs.declared.order.Order.TheVariants as order
-use Rattle.jk_server.specs.Commands.{command_side, CommandSide, CommandTells, Contains, format_text, Serves, wants_by}
+use Rattle.jk_server.specs.Commands.{command_side, CommandSide, CommandTells, Contains, format_text, DoesServe, wants_by}
 use Rattle.gear_parts.specs.Wants.{container_wants}
 use Rattle.gear_parts.specs.Worlds.{Tells}
 use Rattle.jk_server.specs.declared.orders.ends.CommandEnd.{CommandEnd}
@@ -34,7 +34,7 @@ pub record Drills {G L : Type 0} (seed threads requests : ℕ) (text passes : Bo
 -- An order that asks for workers or threads, by what it does.
 abbrev pub DoesOrder : {W G C S O X Z L : Type 0} → Tells W G C S O X Z → CommandOutside → Order → (s n : CommandSide G) → EndOf L → Type 0
 DoesOrder told outside (order.Serve o) s n ended =
-    EndsServed (Serves told outside o.workers o.map (format_text o.format) o.threads (wants_by o) s n) ended
+    EndsServed (DoesServe told outside o.workers o.map (format_text o.format) o.threads (wants_by o) s n) ended
 DoesOrder told outside (order.Container route address threads clients) s n ended = EndsServed (Contains told route threads (container_wants address clients) s n) ended
 DoesOrder told outside (order.Drill seed threads requests text passes) s n ended = Drills seed threads requests text passes s n ended
 DoesOrder told outside other s n ended = ⊥

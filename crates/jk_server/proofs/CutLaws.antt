@@ -16,7 +16,7 @@ use Rattle.gear_parts.specs.Cuts.{AddsCuts, AddsFront, ToFirst}
 use Rattle.gear_parts.specs.Gears.{gear_side}
 use Rattle.gear_parts.specs.declared.world.Gear.{Gear}
 use Rattle.lb_closing.specs.Closings.{DiscordNote}
-use Rattle.lb_closing.specs.OneHistory.{IsWhole}
+use Rattle.lb_closing.specs.OneHistory.{IsOneHistory}
 use Rattle.jk_server.specs.Headline.{AreEnded, firsts_of}
 use Rattle.jk_server.specs.Closings.{Closes, IsDiscordOf, KeepsFirst, Shelves, ShelvesFront}
 use Rattle.jk_server.specs.declared.runs.ends.Closing.{Closing}
@@ -55,7 +55,7 @@ ended_said lbs sizes firsts starts seats at begun books same_sizes same_firsts s
   at = at;
   begun = begun;
   starts = begins;
-  closed = subst (λ (os : List Opening). IsWhole os seats books) same_starts closed.history;
+  closed = subst (λ (os : List Opening). IsOneHistory os seats books) same_starts closed.history;
 }
 
 -- A closing of a Site's Books, told of the configuration.

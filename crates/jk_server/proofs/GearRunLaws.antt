@@ -14,10 +14,10 @@ use Rattle.jk_server.specs.Parts.{AreEach}
 use Rattle.jk_server.specs.declared.part.WorkerEnd.{WorkerEnd}
 use Rattle.lb_shared.specs.Histories.{SeatNote}
 use Rattle.jk_server.specs.Runs.{AreServedGears, IsServedGear}
-use Rattle.jk_server.specs.Worker.{Keeps}
+use Rattle.jk_server.specs.Worker.{WorkerTells}
 
 -- Each gear was served by its worker, where that follows of its slot, of what was left of it and of how the worker ended.
-pub gears_served : {P O V C S L X Z : Type 0} → (visits : ℕ → Peer → Visit) (told : Ghosts C X) (of : Keeps S (Option (LogState Z))) (format : List FormatPart) (Fresh : P → Type 0) (Is : ℕ → P → O → V → WorkerEnd L → Type 0)
+pub gears_served : {P O V C S L X Z : Type 0} → (visits : ℕ → Peer → Visit) (told : Ghosts C X) (of : WorkerTells S (Option (LogState Z))) (format : List FormatPart) (Fresh : P → Type 0) (Is : ℕ → P → O → V → WorkerEnd L → Type 0)
     (was : P → GearSide C S Z) (is_now : O → GearSide C S Z) (seat : V → SeatNote)
     (n : ℕ) (ps : List P) (os : List O) (vs : List V) (es : List (WorkerEnd L)) → All Fresh ps → AreEach Is n ps os vs es
     → ((k : ℕ) (p : P) (o : O) (v : V) (e : WorkerEnd L) → Fresh p → Is k p o v e → IsServedGear (visits k) told of format (was p) (is_now o) (seat v) e)
@@ -35,13 +35,13 @@ gears_served visits told of format Fresh Is was is_now seat n (p ∷ ps) (o ∷ 
 )
 
 -- So of a gear, a seat and an end that are the same.
-pub served_same : {G C S L X Z : Type 0} → (visit : Peer → Visit) (told : Ghosts C X) (of : Keeps S (Option (LogState Z))) (format : List FormatPart) (before : GearSide C S Z) (at : G → GearSide C S Z)
+pub served_same : {G C S L X Z : Type 0} → (visit : Peer → Visit) (told : Ghosts C X) (of : WorkerTells S (Option (LogState Z))) (format : List FormatPart) (before : GearSide C S Z) (at : G → GearSide C S Z)
     (gear gear' : G) (seat seat' : SeatNote) (end end' : WorkerEnd L) → gear' ≡ gear → seat' ≡ seat → end' ≡ end
     → IsServedGear visit told of format before (at gear) seat end → IsServedGear visit told of format before (at gear') seat' end'
 served_same visit told of format before at gear gear' seat seat' end end' same_gear same_seat same_end is = rw (same_gear, same_seat, same_end) is
 
 -- So of gears that were the same before.
-pub served_from : {C S L X Z : Type 0} → (visits : ℕ → Peer → Visit) (told : Ghosts C X) (of : Keeps S (Option (LogState Z))) (format : List FormatPart) (n : ℕ) (before before' after : List (GearSide C S Z))
+pub served_from : {C S L X Z : Type 0} → (visits : ℕ → Peer → Visit) (told : Ghosts C X) (of : WorkerTells S (Option (LogState Z))) (format : List FormatPart) (n : ℕ) (before before' after : List (GearSide C S Z))
     (seats : List SeatNote) (ends : List (WorkerEnd L)) → before ≡ before' → AreServedGears visits told of format n before after seats ends
     → AreServedGears visits told of format n before' after seats ends
 served_from {C} {S} {L} {Z = Z} visits told of format n before before' after seats ends same served =

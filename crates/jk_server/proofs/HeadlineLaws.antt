@@ -20,14 +20,14 @@ use Rattle.jk_server.specs.Closings.{Closes, KeepsFirst, Shelves, ShelvesFront}
 use Rattle.jk_server.specs.Headline.{AreEnded, AreSessions, HasBooks, IsHeadline, IsOneList, MetNoStray, NamesItsStray, told_in}
 use Rattle.jk_server.specs.Runs.{AreServedGears}
 use Rattle.jk_server.specs.Served.{Run}
-use Rattle.jk_server.specs.Worker.{Keeps}
+use Rattle.jk_server.specs.Worker.{WorkerTells}
 use Rattle.jk_server.specs.declared.part.WorkerEnd.{WorkerEnd}
 use Rattle.jk_server.specs.declared.runs.ends.Closing.{Closing}
 use Rattle.jk_server.specs.declared.runs.ends.Closing.TheVariants as closing
 use Rattle.jk_server.proofs.StrayLaws.{served_back, served_names}
 
 -- The sessions of all workers, what each seat has seen as its own, and of which sessions the tickets came back.
-record HaveServed {C S Y L X : Type 0} (visits : ℕ → Peer → Visit) (told : Ghosts C X) (of : Keeps S Y) (number : ℕ) (seats : List SeatNote) (ends : List (WorkerEnd L)) : Type 0 where
+record HaveServed {C S Y L X : Type 0} (visits : ℕ → Peer → Visit) (told : Ghosts C X) (of : WorkerTells S Y) (number : ℕ) (seats : List SeatNote) (ends : List (WorkerEnd L)) : Type 0 where
   workers : List (List (Run C S Y))
   each : length workers ≡ length ends
   sessions : AreSessions visits told of number workers
@@ -35,7 +35,7 @@ record HaveServed {C S Y L X : Type 0} (visits : ℕ → Peer → Visit) (told :
   back : AllZip (λ (s : SeatNote) (runs : List (Run C S Y)). MetNoStray runs → HaveReturned (told_in runs)) seats workers
   strays : AllZip NamesItsStray workers ends
 
-have_served : {C S O L X : Type 0} (visits : ℕ → Peer → Visit) (told : Ghosts C X) (of : Keeps S (Option (LogState O))) (format : List FormatPart) (number : ℕ) (before after : List (GearSide C S O)) (seats : List SeatNote) (ends : List (WorkerEnd L))
+have_served : {C S O L X : Type 0} (visits : ℕ → Peer → Visit) (told : Ghosts C X) (of : WorkerTells S (Option (LogState O))) (format : List FormatPart) (number : ℕ) (before after : List (GearSide C S O)) (seats : List SeatNote) (ends : List (WorkerEnd L))
     → AreServedGears visits told of format number before after seats ends → HaveServed visits told of number seats ends
 have_served visits told of format number [] [] [] [] served = record { workers = []; each = refl; sessions = tt; own = tt; back = tt; strays = tt }
 have_served visits told of format number (b ∷ before) (a ∷ after) (s ∷ seats) (e ∷ ends) served =
@@ -121,7 +121,7 @@ ends_with shelved faults lbs seats books left back (closing.Differs d) closes ha
 ends_with shelved faults lbs seats books left back closing.NoMemory closes has = absurd has
 
 -- The headline.
-pub headline_of : {C S O L X : Type 0} (visits : ℕ → Peer → Visit) (told : Ghosts C X) (of : Keeps S (Option (LogState O))) (format : List FormatPart) (shelved : S → Option (List (ℕ × Segment))) (faults : S → ℕ) (lbs : List Lb)
+pub headline_of : {C S O L X : Type 0} (visits : ℕ → Peer → Visit) (told : Ghosts C X) (of : WorkerTells S (Option (LogState O))) (format : List FormatPart) (shelved : S → Option (List (ℕ × Segment))) (faults : S → ℕ) (lbs : List Lb)
     (begun left back : List (GearSide C S O)) (seats : List SeatNote) (books : List Journal) (ends : List (WorkerEnd L)) (end : Closing L)
     → AreServedGears visits told of format 0 begun left seats ends → Closes shelved faults lbs seats books left back end → IsHeadline visits told of lbs ends end books
 headline_of visits told of format shelved faults lbs begun left back seats books ends end served closes =

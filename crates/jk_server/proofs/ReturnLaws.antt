@@ -21,14 +21,14 @@ use Rattle.jk_server.specs.declared.runs.ends.Closing.{Closing}
 use Rattle.jk_server.specs.declared.runs.ends.Closing.TheVariants as closing
 use Rattle.jk_server.specs.declared.part.WorkerEnd.{WorkerEnd}
 use Rattle.jk_server.specs.Ends.{returned}
-use Rattle.jk_server.specs.Worker.{Keeps}
+use Rattle.jk_server.specs.Worker.{WorkerTells}
 
 all_started : {C S O : Type 0} (before begun : List (GearSide C S O)) → AreStarted before begun → length begun ≡ length before
 all_started [] begun e = ap length e
 all_started (first ∷ rest) [] e = absurd e
 all_started (first ∷ rest) (first' ∷ rest') e = ap (λ (l : List _). length (first ∷ l)) e.3
 
-all_left : {C S O L X : Type 0} (visits : ℕ → Peer → Visit) (told : Ghosts C X) (of : Keeps S (Option (LogState O))) (format : List FormatPart) (number : ℕ) (begun left : List (GearSide C S O)) (seats : List SeatNote) (ends : List (WorkerEnd L))
+all_left : {C S O L X : Type 0} (visits : ℕ → Peer → Visit) (told : Ghosts C X) (of : WorkerTells S (Option (LogState O))) (format : List FormatPart) (number : ℕ) (begun left : List (GearSide C S O)) (seats : List SeatNote) (ends : List (WorkerEnd L))
     → AreServedGears visits told of format number begun left seats ends → length left ≡ length begun
 all_left visits told of format number [] [] [] [] s = refl
 all_left visits told of format number (b ∷ begun) (a ∷ left) (seat ∷ seats) (e ∷ ends) s = ap (λ (n : ℕ). suc n) (all_left visits told of format (number + 1) begun left seats ends s.1)
@@ -52,7 +52,7 @@ few_closed at shelved faults lbs seats books left back (closing.Differs d) c = l
 few_closed at shelved faults lbs seats books left back closing.NoMemory c = omega arith
 
 -- no more gears come back of a run than it had
-pub few_returned : {G C S O L X : Type 0} (at : G → GearSide C S O) (visits : ℕ → Peer → Visit) (told : Ghosts C X) (shelved : S → Option (List (ℕ × Segment))) (of : Keeps S (Option (LogState O))) (format : List FormatPart) (lbs : List Lb) (gears back : List G) (ends : List (WorkerEnd L)) (closed : Closing L)
+pub few_returned : {G C S O L X : Type 0} (at : G → GearSide C S O) (visits : ℕ → Peer → Visit) (told : Ghosts C X) (shelved : S → Option (List (ℕ × Segment))) (of : WorkerTells S (Option (LogState O))) (format : List FormatPart) (lbs : List Lb) (gears back : List G) (ends : List (WorkerEnd L)) (closed : Closing L)
     → IsSiteRun visits told shelved of format lbs (map at gears) (map at back) ends closed → length (returned closed back) ≤ length gears
 few_returned at visits told shelved of format lbs gears back ends closed run =
     let a = all_started _ _ run.started in

@@ -29,14 +29,14 @@ use Rattle.exchange.specs.Requests.{sizes_of}
 use Rattle.gear_parts.specs.Logs.{BreaksLoudly, LogTells}
 use Rattle.gear_parts.specs.declared.part.Part.{Part}
 use Rattle.jk_server.specs.PartTells.{PartTells, visit_at, worker_of}
-use Rattle.jk_server.specs.Served.{EndsAtLast, EndsBy, GoesOn, HaveRested, IsRun, IsServed, IsStray, left_by, Run, ServesClient, ServesNext, ServesOn, ServesPartNext, Settles, SettlesBy}
+use Rattle.jk_server.specs.Served.{EndsAtLast, EndsBy, WorkerGoesOn, HaveRested, IsRun, IsServed, IsStray, left_by, Run, ServesClient, ServesNext, ServesOn, ServesPartNext, Settles, SettlesBy}
 use Rattle.jk_server.specs.Turns.{EndsAtRest, GoesOrEnds, IsUnderWay, KeepsTurning, LeavesClient, RestsPart, TurnsPart}
-use Rattle.jk_server.specs.Worker.{Begins, forgot_desk, IsFit, Keeps, Rests, worker_side, WorkerSide}
+use Rattle.jk_server.specs.Worker.{BeginsSession, forgot_desk, IsFit, WorkerTells, Rests, worker_side, WorkerSide}
 use Rattle.jk_server.specs.declared.part.Post.{Post}
 use Rattle.jk_server.specs.declared.part.WorkerEnd.{WorkerEnd}
 use Rattle.jk_server.specs.declared.part.WorkerEnd.TheVariants as worker
 
-pub begins : {C S Y X : Type 0} → (visit : Peer → Visit) (told : Ghosts C X) (of : Keeps S Y) (door : DoorSide C) (s : WorkerSide S Y)
+pub begins : {C S Y X : Type 0} → (visit : Peer → Visit) (told : Ghosts C X) (of : WorkerTells S Y) (door : DoorSide C) (s : WorkerSide S Y)
     → of.log.broken_by s.log ≡ None → IsUnderWay visit told of door door s s 0
 begins visit told of door s logged = record {
   runs = [];
@@ -49,22 +49,22 @@ begins visit told of door s logged = record {
 }
 
 -- one more session, after which the worker rested
-pub rested_more : {C S Y : Type 0} → (of : Keeps S Y) (s m n : WorkerSide S Y) (runs : List (Run C S Y)) (r : Run C S Y)
-    → HaveRested of s runs m → Begins of.log m r.peer r.from → GoesOn of r.from r.to r.end → Rests r.to n
+pub rested_more : {C S Y : Type 0} → (of : WorkerTells S Y) (s m n : WorkerSide S Y) (runs : List (Run C S Y)) (r : Run C S Y)
+    → HaveRested of s runs m → BeginsSession of.log m r.peer r.from → WorkerGoesOn of r.from r.to r.end → Rests r.to n
     → HaveRested of s (runs ++ r ∷ []) n
 rested_more {C} {S} {Y} of s m n [] r rested from goes rests =
-    (n, subst (λ (w : WorkerSide S Y). Begins of.log w r.peer r.from) rested from, goes, rests, refl)
+    (n, subst (λ (w : WorkerSide S Y). BeginsSession of.log w r.peer r.from) rested from, goes, rests, refl)
 rested_more of s m n (x ∷ runs) r rested from goes rests =
     (rested.0, rested.1, rested.2, rested.3, rested_more of rested.0 m n runs r rested.4 from goes rests)
 
 -- the client that came, was served and was left
-abbrev run_of : {C S Y L X : Type 0} → (visit : Peer → Visit) (told : Ghosts C X) (of : Keeps S Y) (mid after : DoorSide C) (s n : WorkerSide S Y) (link : C) (peer : Peer) (end : Option (WorkerEnd L))
+abbrev run_of : {C S Y L X : Type 0} → (visit : Peer → Visit) (told : Ghosts C X) (of : WorkerTells S Y) (mid after : DoorSide C) (s n : WorkerSide S Y) (link : C) (peer : Peer) (end : Option (WorkerEnd L))
     → ServesClient visit told of mid after s n link peer end → Run C S Y
 run_of visit told of mid after s n link peer end serves =
     record { link = link; peer = peer; back = serves.back; from = serves.from; to = serves.to; end = serves.session_end }
 
 -- the clients with this one
-clients_more : {C S Y L X : Type 0} → (visit : Peer → Visit) (told : Ghosts C X) (of : Keeps S Y) (first before mid after : DoorSide C) (s n : WorkerSide S Y) (runs : List (Run C S Y)) (link : C) (peer : Peer) (end : Option (WorkerEnd L))
+clients_more : {C S Y L X : Type 0} → (visit : Peer → Visit) (told : Ghosts C X) (of : WorkerTells S Y) (first before mid after : DoorSide C) (s n : WorkerSide S Y) (runs : List (Run C S Y)) (link : C) (peer : Peer) (end : Option (WorkerEnd L))
     → GaveAndGot first before (map (λ (r : Run C S Y). (r.link, r.peer)) runs) (map (λ (r : Run C S Y). r.back) runs) → Gives before mid link peer
     → (serves : ServesClient visit told of mid after s n link peer end)
     → GaveAndGot first after (map (λ (r : Run C S Y). (r.link, r.peer)) (runs ++ run_of visit told of mid after s n link peer end serves ∷ []))
@@ -79,7 +79,7 @@ clients_more {C} {S} {Y} visit told of first before mid after s n runs link peer
 same_side : {S Y : Type 0} → (to n : WorkerSide S Y) → n ≡ record to { desk = n.desk } → n.desk ≡ to.desk → n ≡ to
 same_side {S} {Y} to n same desk = same ∙ ap (λ (d : SharedState S). record to { desk = d }) desk
 
-pub goes_on : {C S Y L X : Type 0} → (visit : Peer → Visit) (told : Ghosts C X) (of : Keeps S Y) (first before mid after : DoorSide C) (s m n k : WorkerSide S Y) (count next : ℕ) (link : C) (peer : Peer) (then : DoorSide C)
+pub goes_on : {C S Y L X : Type 0} → (visit : Peer → Visit) (told : Ghosts C X) (of : WorkerTells S Y) (first before mid after : DoorSide C) (s m n k : WorkerSide S Y) (count next : ℕ) (link : C) (peer : Peer) (then : DoorSide C)
     → IsUnderWay visit told of first before s m count → Gives before mid link peer
     → ServesClient {L = L} visit told of mid after m n link peer None → Rests n k
     → then ≡ after → next ≡ min (count + 1) 18446744073709551615 → IsUnderWay visit told of first then s k next
@@ -102,14 +102,14 @@ goes_on {C} {S} {Y} {L} visit told of first before mid after s m n k count next 
     })
 
 -- it rested, and the reach wanted memory
-pub rest_wants : {C S Y L X : Type 0} → (visit : Peer → Visit) (told : Ghosts C X) (of : Keeps S Y) (first now : DoorSide C) (s n : WorkerSide S Y) (count : ℕ)
+pub rest_wants : {C S Y L X : Type 0} → (visit : Peer → Visit) (told : Ghosts C X) (of : WorkerTells S Y) (first now : DoorSide C) (s n : WorkerSide S Y) (count : ℕ)
     → IsUnderWay visit told of first now s n count → IsServed {L = L} visit told of first now s n worker.NoMemory
 rest_wants visit told of first now s n count way =
     record { runs = way.runs; clients = way.clients; sessions = way.sessions; why = inl (way.rested, way.steady) }
 
 -- ---- the end right after a session
 
-ends_at_last : {C S Y L X : Type 0} → (visit : Peer → Visit) (told : Ghosts C X) (of : Keeps S Y) (mid after : DoorSide C) (s m n : WorkerSide S Y) (runs : List (Run C S Y)) (link : C) (peer : Peer) (end : WorkerEnd L)
+ends_at_last : {C S Y L X : Type 0} → (visit : Peer → Visit) (told : Ghosts C X) (of : WorkerTells S Y) (mid after : DoorSide C) (s m n : WorkerSide S Y) (runs : List (Run C S Y)) (link : C) (peer : Peer) (end : WorkerEnd L)
     → HaveRested of s runs m → (serves : ServesClient visit told of mid after m n link peer (Some end))
     → EndsAtLast of s n (runs ++ run_of visit told of mid after m n link peer (Some end) serves ∷ []) end
 ends_at_last {C} {S} {Y} visit told of mid after s m n runs link peer end rested serves = record {
@@ -124,7 +124,7 @@ ends_at_last {C} {S} {Y} visit told of mid after s m n runs link peer end rested
 }
 
 -- an end right after a session is an end
-ends_by : {C S Y L : Type 0} → (of : Keeps S Y) (before after : DoorSide C) (s n : WorkerSide S Y) (runs : List (Run C S Y)) (end : WorkerEnd L)
+ends_by : {C S Y L : Type 0} → (of : WorkerTells S Y) (before after : DoorSide C) (s n : WorkerSide S Y) (runs : List (Run C S Y)) (end : WorkerEnd L)
     → EndsAtLast of s n runs end → EndsBy of before after s n runs end
 ends_by of before after s n runs (worker.Closed sessions) at = absurd at.why
 ends_by of before after s n runs worker.DoorFault at = absurd at.why
@@ -133,7 +133,7 @@ ends_by of before after s n runs worker.LogFault at = at
 ends_by of before after s n runs (worker.Stray stray) at = at
 ends_by of before after s n runs worker.NoMemory at = inr at
 
-pub ends : {C S Y L X : Type 0} → (visit : Peer → Visit) (told : Ghosts C X) (of : Keeps S Y) (first before mid after : DoorSide C) (s m n : WorkerSide S Y) (count : ℕ) (link : C) (peer : Peer) (end : WorkerEnd L)
+pub ends : {C S Y L X : Type 0} → (visit : Peer → Visit) (told : Ghosts C X) (of : WorkerTells S Y) (first before mid after : DoorSide C) (s m n : WorkerSide S Y) (count : ℕ) (link : C) (peer : Peer) (end : WorkerEnd L)
     → IsUnderWay visit told of first before s m count → Gives before mid link peer
     → ServesClient visit told of mid after m n link peer (Some end) → IsServed visit told of first after s n end
 ends visit told of first before mid after s m n count link peer end way gives serves = record {
@@ -159,7 +159,7 @@ pub rose_loud : (was before now : Option IoError) (faults faults' : ℕ) → was
 rose_loud was before now faults faults' sound calm loud broke = rose_of was before faults faults' sound calm (loud broke)
 
 -- A worker after its session, by the error that broke its log.
-pub settles_so : {S Y L : Type 0} → (of : Keeps S Y) (from to : WorkerSide S Y) (n : SharedState S) (end : SessionEnd) (broken : Option IoError) (settled' : Option (WorkerEnd L))
+pub settles_so : {S Y L : Type 0} → (of : WorkerTells S Y) (from to : WorkerSide S Y) (n : SharedState S) (end : SessionEnd) (broken : Option IoError) (settled' : Option (WorkerEnd L))
     → of.log.broken_by to.log ≡ broken → (broken ≡ Some io.Failed → Rose (of.log.faults from.log) (of.log.faults to.log))
     → SettlesBy broken of.shelf_faults from.desk to.desk n end.stop settled' → Settles of from to n end settled'
 settles_so of from to n end None None is loud by = (record { desk = by.0; logged = is }, by.1)
@@ -194,7 +194,7 @@ same_but_desk {K} {R} {S} {Y} answers told d n k k' r r' y y' same =
 
 -- what a worker begins its session with
 pub begins_so : {K R S Y : Type 0} (log : LogTells Y) (answers : K → Option (List ℕ)) (told : Ghosts R Beside) (d n : SharedState S) (k : K) (r : R) (y y' : Y) (peer : Peer)
-    → n ≡ forgot_desk d → log.greets y peer y' → Begins log (worker_side answers told d k r y) peer (worker_side answers told n k r y')
+    → n ≡ forgot_desk d → log.greets y peer y' → BeginsSession log (worker_side answers told d k r y) peer (worker_side answers told n k r y')
 begins_so {K} {R} {S} {Y} log answers told d n k r y y' peer same greeted =
     record { greeted = greeted; same = ap (λ (x : SharedState S). worker_side answers told x k r y') same }
 
@@ -208,7 +208,7 @@ parts_again d d' parts is same = rw same is
 
 -- ---- the door gives none
 
-pub closes : {C S Y L X : Type 0} → (visit : Peer → Visit) (told : Ghosts C X) (of : Keeps S Y) (first before after : DoorSide C) (s n : WorkerSide S Y) (count : ℕ)
+pub closes : {C S Y L X : Type 0} → (visit : Peer → Visit) (told : Ghosts C X) (of : WorkerTells S Y) (first before after : DoorSide C) (s n : WorkerSide S Y) (count : ℕ)
     → IsUnderWay visit told of first before s n count → GivesNone before after × IsEmpty after.coming → after.faults ≡ before.faults
     → IsServed {L = L} visit told of first after s n (worker.Closed count)
 closes visit told of first before after s n count way none steady = record {
@@ -221,7 +221,7 @@ closes visit told of first before after s n count way none steady = record {
 rose_since : (first before now : ℕ) → first ≤ before → Rose before now → Rose first now
 rose_since first before now earlier rose = omega (arith, earlier, rose)
 
-pub fails : {C S Y L X : Type 0} → (visit : Peer → Visit) (told : Ghosts C X) (of : Keeps S Y) (first before after : DoorSide C) (s n : WorkerSide S Y) (count : ℕ)
+pub fails : {C S Y L X : Type 0} → (visit : Peer → Visit) (told : Ghosts C X) (of : WorkerTells S Y) (first before after : DoorSide C) (s n : WorkerSide S Y) (count : ℕ)
     → IsUnderWay visit told of first before s n count → GivesNone before after × Rose before.faults after.faults
     → IsServed {L = L} visit told of first after s n worker.DoorFault
 fails visit told of first before after s n count way none = record {
@@ -231,7 +231,7 @@ fails visit told of first before after s n count way none = record {
   why = (way.rested, rose_since first.faults before.faults after.faults way.clients.no_fewer none.1);
 }
 
-pub lacks : {C S Y L X : Type 0} → (visit : Peer → Visit) (told : Ghosts C X) (of : Keeps S Y) (first before after : DoorSide C) (s n : WorkerSide S Y) (count : ℕ)
+pub lacks : {C S Y L X : Type 0} → (visit : Peer → Visit) (told : Ghosts C X) (of : WorkerTells S Y) (first before after : DoorSide C) (s n : WorkerSide S Y) (count : ℕ)
     → IsUnderWay visit told of first before s n count → GivesNone before after → after.faults ≡ before.faults
     → IsServed {L = L} visit told of first after s n worker.NoMemory
 lacks visit told of first before after s n count way none steady = record {
@@ -243,7 +243,7 @@ lacks visit told of first before after s n count way none steady = record {
 
 -- ---- the next client
 
-pub serves_on : {C S Y L X : Type 0} → (visit : Peer → Visit) (told : Ghosts C X) (of : Keeps S Y) (before after then : DoorSide C) (s mid n : WorkerSide S Y) (link : C) (peer : Peer)
+pub serves_on : {C S Y L X : Type 0} → (visit : Peer → Visit) (told : Ghosts C X) (of : WorkerTells S Y) (before after then : DoorSide C) (s mid n : WorkerSide S Y) (link : C) (peer : Peer)
     → ServesClient {L = L} visit told of before after s mid link peer None → Rests mid n → then ≡ after
     → ServesOn {L = L} visit told of before then s n link peer None
 serves_on {C} {S} {Y} {L} visit told of before after then s mid n link peer serves rests same = record {
@@ -252,13 +252,13 @@ serves_on {C} {S} {Y} {L} visit told of before after then s mid n link peer serv
   rests = rests;
 }
 
-pub goes_next : {C S Y L X : Type 0} → (visit : Peer → Visit) (told : Ghosts C X) (of : Keeps S Y) (first before mid after : DoorSide C) (s m k : WorkerSide S Y) (count next : ℕ) (link : C) (peer : Peer)
+pub goes_next : {C S Y L X : Type 0} → (visit : Peer → Visit) (told : Ghosts C X) (of : WorkerTells S Y) (first before mid after : DoorSide C) (s m k : WorkerSide S Y) (count next : ℕ) (link : C) (peer : Peer)
     → IsUnderWay visit told of first before s m count → Gives before mid link peer → ServesOn {L = L} visit told of mid after m k link peer None
     → next ≡ min (count + 1) 18446744073709551615 → IsUnderWay visit told of first after s k next
 goes_next {C} {S} {Y} {L} visit told of first before mid after s m k count next link peer way gives on more =
     goes_on {L = L} visit told of first before mid after s m on.mid k count next link peer after way gives on.serves on.rests refl more
 
-pub ends_next : {C S Y L X : Type 0} → (visit : Peer → Visit) (told : Ghosts C X) (of : Keeps S Y) (first before mid after : DoorSide C) (s m n : WorkerSide S Y) (count : ℕ) (link : C) (peer : Peer) (end : WorkerEnd L)
+pub ends_next : {C S Y L X : Type 0} → (visit : Peer → Visit) (told : Ghosts C X) (of : WorkerTells S Y) (first before mid after : DoorSide C) (s m n : WorkerSide S Y) (count : ℕ) (link : C) (peer : Peer) (end : WorkerEnd L)
     → IsUnderWay visit told of first before s m count → Gives before mid link peer
     → ServesNext visit told of mid after m n link peer (Some end) → IsServed visit told of first after s n end
 ends_next visit told of first before mid after s m n count link peer end way gives (inl serves) =
@@ -269,7 +269,7 @@ ends_next {C} {S} {Y} {L} visit told of first before mid after s m n count link 
     (goes_next {L = L} visit told of first before mid after s m n count (min (count + 1) 18446744073709551615) link peer way gives wants.1 refl))
 
 -- one turn, after which the worker goes on or ends
-pub turns : {C S Y L X : Type 0} → (visit : Peer → Visit) (told : Ghosts C X) (of : Keeps S Y) (first before mid after : DoorSide C) (s m n : WorkerSide S Y) (count : ℕ) (link : C) (peer : Peer) (end : Option (WorkerEnd L))
+pub turns : {C S Y L X : Type 0} → (visit : Peer → Visit) (told : Ghosts C X) (of : WorkerTells S Y) (first before mid after : DoorSide C) (s m n : WorkerSide S Y) (count : ℕ) (link : C) (peer : Peer) (end : Option (WorkerEnd L))
     → IsUnderWay visit told of first before s m count → Gives before mid link peer → ServesNext visit told of mid after m n link peer end
     → GoesOrEnds visit told of first after s n count end
 turns {L = L} visit told of first before mid after s m n count link peer None way gives serves =
@@ -369,7 +369,7 @@ left_desk {S} (worker.Stray stray) to n is = holds_took to.desk n.desk (ap (λ (
 left_desk {S} worker.NoMemory to n is = holds_same to.desk n.desk (ap (λ (x : SharedState S). x.desk) is)
 
 -- So a desk is after a session, whether its worker goes on or ends.
-pub settled : {S Y L : Type 0} → (of : Keeps S Y) (from to : WorkerSide S Y) (n : SharedState S) (end : SessionEnd) (worker_end : Option (WorkerEnd L))
+pub settled : {S Y L : Type 0} → (of : WorkerTells S Y) (from to : WorkerSide S Y) (n : SharedState S) (end : SessionEnd) (worker_end : Option (WorkerEnd L))
     → Settles of from to n end worker_end → HoldsAs to.desk.desk n.desk
 settled {S} of from to n end None settles = holds_same to.desk.desk n.desk (ap (λ (x : SharedState S). x.desk) settles.1)
 settled of from to n end (Some worker_end) settles = left_desk worker_end to.desk n settles.1

@@ -6,7 +6,7 @@ use Rattle.std.proofs.lemmas.List.Elements.{All-cons, All-nil}
 use Rattle.std.proofs.Math.Seq.{take-append_seam}
 use Rattle.std.proofs.lemmas.List.{append_assoc, append-nil}
 use Rattle.jk_server.specs.Parts.{AllFour, AreDone, AreEach, DoneAndLeft, InEach}
-use Rattle.jk_server.specs.Rooms.{HasRoom, HasSpace, PutsLeft}
+use Rattle.jk_server.specs.Rooms.{HasRoomForEnds, HasSpace, PutsLeft}
 use Rattle.jk_server.specs.declared.part.WorkerEnd.{WorkerEnd}
 use Rattle.jk_server.specs.declared.part.Ran.{Ran}
 
@@ -113,8 +113,8 @@ pub space_after : {L V G Q : Type 0} → (before after : Ran L V G) (end : Worke
 space_after before after end left gear rest later q put space cut = put.space (length later) (length rest) (ap length cut ∙ sym (add-one (length later))) space
 
 -- So is room for as many.
-pub room_so : {L V G : Type 0} → (room : Ran L V G) (many count : ℕ) → many ≡ count → HasRoom count room → HasRoom many room
-room_so {L} {V} {G} room many count same has = subst (λ (n : ℕ). HasRoom n room) (sym same) has
+pub room_so : {L V G : Type 0} → (room : Ran L V G) (many count : ℕ) → many ≡ count → HasRoomForEnds count room → HasRoomForEnds many room
+room_so {L} {V} {G} room many count same has = subst (λ (n : ℕ). HasRoomForEnds n room) (sym same) has
 
 -- ---- slots that were worked in
 

@@ -22,7 +22,7 @@ use Rattle.gear_parts.specs.Gears.{GearSide, gear_side}
 use Rattle.gear_parts.specs.declared.world.Gear.{Gear}
 use Rattle.jk_server.specs.Headline.{told_in}
 use Rattle.jk_server.specs.Served.{IsServed}
-use Rattle.jk_server.specs.Worker.{Keeps, WorkerSide}
+use Rattle.jk_server.specs.Worker.{WorkerTells, WorkerSide}
 use Rattle.jk_server.specs.declared.part.WorkerEnd.{WorkerEnd}
 use Rattle.gear_parts.specs.GearParts.{Start, start_of, unnumbered}
 use Rattle.conn_pool.specs.declared.watch.Watch.{Watch}
@@ -95,7 +95,7 @@ pub one_part : (was now : Option ℕ) (n : ℕ) → now ≡ Some n → now ≡ w
 one_part was now n is same one = cc
 
 -- The run from its start: its workers, each with its end, and its closing.
-pub run_done : {C S O L X : Type 0} → (visits : ℕ → Peer → Visit) (told : Ghosts C X) (shelved : S → Option (List (ℕ × Segment))) (of : Keeps S (Option (LogState O))) (format : List FormatPart) (lbs : List Lb)
+pub run_done : {C S O L X : Type 0} → (visits : ℕ → Peer → Visit) (told : Ghosts C X) (shelved : S → Option (List (ℕ × Segment))) (of : WorkerTells S (Option (LogState O))) (format : List FormatPart) (lbs : List Lb)
     (begun left back : List (GearSide C S O)) (seats : List SeatNote) (ends ends' : List (WorkerEnd L)) (closing : Closing L)
     → AreServedGears visits told of format 0 begun left seats ends → ends' ≡ ends → (books : List Journal) × Closes shelved of.shelf_faults lbs seats books left back closing
     → IsStartedRun visits told shelved of format lbs begun back ends' closing
@@ -107,7 +107,7 @@ run_done {L = L} visits told shelved of format lbs begun left back seats ends en
   closed = closed.1;
 }
 
-pub served_gear : {C S O L X : Type 0} → (visit : Peer → Visit) (told : Ghosts C X) (of : Keeps S (Option (LogState O))) (format : List FormatPart) (before after : GearSide C S O) (seat : SeatNote) (from to : WorkerSide S (Option (LogState O))) (end : WorkerEnd L)
+pub served_gear : {C S O L X : Type 0} → (visit : Peer → Visit) (told : Ghosts C X) (of : WorkerTells S (Option (LogState O))) (format : List FormatPart) (before after : GearSide C S O) (seat : SeatNote) (from to : WorkerSide S (Option (LogState O))) (end : WorkerEnd L)
     → (served : IsServed visit told of before.door after.door from to end) → WorksWith before from → IsNew from.desk → WorksWith after to
     → from.log ≡ new_log format before.log → sink_of to.log ≡ after.log
     → own_in seat.number seat.seen ≡ noted (told_in served.runs) → IsServedGear visit told of format before after seat end
@@ -115,7 +115,7 @@ served_gear visit told of format before after seat from to end served first fres
     record { from = from; to = to; first = first; fresh = fresh; last = last; begun = begun; left = left; served = served; own = own }
 
 -- The run, from before its start.
-pub started_run : {D G T K S O C L X : Type 0} → (visits : ℕ → Peer → Visit) (told : Ghosts C X) (shelved : S → Option (List (ℕ × Segment))) (of : Keeps S (Option (LogState O))) (format : List FormatPart) (lbs : List Lb)
+pub started_run : {D G T K S O C L X : Type 0} → (visits : ℕ → Peer → Visit) (told : Ghosts C X) (shelved : S → Option (List (ℕ × Segment))) (of : WorkerTells S (Option (LogState O))) (format : List FormatPart) (lbs : List Lb)
     (at : Gear D G T K S O → GearSide C S O) (gears lent new begun back : List (Gear D G T K S O)) (ends : List (WorkerEnd L)) (closing : Closing L)
     → lent ≡ gears → begun ≡ new → AreStarted (map at lent) (map at new)
     → IsStartedRun visits told shelved of format lbs (map at begun) (map at back) ends closing

@@ -18,7 +18,7 @@ use Rattle.client_session.specs.declared.ending.SessionStop.TheVariants as stop
 use Rattle.jk_io.specs.Doors.{DoorSide}
 use Rattle.jk_server.specs.Headline.{MetNoStray, NamesItsStray, told_in}
 use Rattle.jk_server.specs.Served.{CanGoOn, EndsAtLast, EndsBy, HaveRested, IsRun, IsStray, Run}
-use Rattle.jk_server.specs.Worker.{Begins, Keeps, WorkerSide}
+use Rattle.jk_server.specs.Worker.{BeginsSession, WorkerTells, WorkerSide}
 use Rattle.jk_server.specs.declared.part.WorkerEnd.{WorkerEnd}
 use Rattle.jk_server.specs.declared.part.WorkerEnd.TheVariants as worker
 use Rattle.jk_server.proofs.ToldLaws.{all_front, all_last}
@@ -50,19 +50,19 @@ named (stop.Stray ticket returned_at) old new stray meets is none has =
     ap (λ (x : Stray). stop.Stray x.ticket x.returned_at) (some_is mine stray same)
 named stop.NoMemory old new stray meets is none has = absurd is
 
-module _ {C S Y X : Type 0} (visit : Peer → Visit) (told : Ghosts C X) (of : Keeps S Y) where
+module _ {C S Y X : Type 0} (visit : Peer → Visit) (told : Ghosts C X) (of : WorkerTells S Y) where
   -- A session after which its desk has no stray.
-  came_back : (s : WorkerSide S Y) (r : Run C S Y) → Begins of.log s r.peer r.from → IsRun visit told of r → r.to.desk.desk.met ≡ None
+  came_back : (s : WorkerSide S Y) (r : Run C S Y) → BeginsSession of.log s r.peer r.from → IsRun visit told of r → r.to.desk.desk.met ≡ None
       → HaveReturned r.to.desk.desk.receipts
   came_back s r begins run none =
       let receipts : r.to.desk.desk.receipts ≡ run.kept.gained =
       run.kept.receipts ∙ ap (λ (rs : List Receipt). rs ++ run.kept.gained) (ap (λ (w : WorkerSide S Y). w.desk.desk.receipts) begins.same) in
       subst HaveReturned (sym receipts) (run.kept.returned none)
 
-  met_before : (s : WorkerSide S Y) (r : Run C S Y) → Begins of.log s r.peer r.from → s.desk.desk.met ≡ None → r.from.desk.desk.met ≡ None
+  met_before : (s : WorkerSide S Y) (r : Run C S Y) → BeginsSession of.log s r.peer r.from → s.desk.desk.met ≡ None → r.from.desk.desk.met ≡ None
   met_before s r begins none = ap (λ (w : WorkerSide S Y). w.desk.desk.met) begins.same ∙ none
 
-  met_after : (s : WorkerSide S Y) (r : Run C S Y) → Begins of.log s r.peer r.from → IsRun visit told of r → (IsStray r.end.stop → ⊥) → s.desk.desk.met ≡ None
+  met_after : (s : WorkerSide S Y) (r : Run C S Y) → BeginsSession of.log s r.peer r.from → IsRun visit told of r → (IsStray r.end.stop → ⊥) → s.desk.desk.met ≡ None
       → r.to.desk.desk.met ≡ None
   met_after s r begins run calm none = met_none r.end.stop r.from.desk.desk r.to.desk.desk run.met calm ∙ met_before s r begins none
 

@@ -18,7 +18,7 @@ use Rattle.lb_shared.proofs.LeftLaws.{gone_none}
 use Rattle.lb_shared.proofs.ShelfLaws.{shelved_none}
 use Rattle.jk_server.specs.Headline.{told_in}
 use Rattle.jk_server.specs.Served.{EndsAtLast, EndsBy, HaveRested, IsRun, IsServed, Run, left_by}
-use Rattle.jk_server.specs.Worker.{Begins, Keeps, WorkerSide}
+use Rattle.jk_server.specs.Worker.{BeginsSession, WorkerTells, WorkerSide}
 use Rattle.jk_server.specs.declared.part.WorkerEnd.{WorkerEnd}
 use Rattle.jk_server.specs.declared.part.WorkerEnd.TheVariants as worker
 
@@ -78,9 +78,9 @@ pub all_last : {A : Type 0} (P : A → Type 0) (xs : List A) (y : A) → All P (
 all_last P [] y all = All-head P y [] all
 all_last P (x ∷ xs) y all = all_last P xs y (All-tail P x (xs ++ y ∷ []) all)
 
-module _ {C S Y X : Type 0} (visit : Peer → Visit) (told : Ghosts C X) (of : Keeps S Y) where
+module _ {C S Y X : Type 0} (visit : Peer → Visit) (told : Ghosts C X) (of : WorkerTells S Y) where
   -- One session, from the moment before the desk forgot the receipts of the last.
-  told_session : (s : WorkerSide S Y) (r : Run C S Y) → Begins of.log s r.peer r.from → IsRun visit told of r
+  told_session : (s : WorkerSide S Y) (r : Run C S Y) → BeginsSession of.log s r.peer r.from → IsRun visit told of r
       → WasTold s.desk.seat r.to.desk.seat r.to.desk.desk.receipts
   told_session s r begins run =
       told_gone s.desk.seat r.to.desk.seat r.to.desk.desk.receipts

@@ -197,11 +197,11 @@ pub record LacksFormat {G L : Type 0} (s n : CommandSide G) (ended : CommandEnd 
   pub world : n.world ≡ s.world
 
 -- `serve WORKERS MAP ADDRESS THREADS`, with logs of the format that this text is, where logs are wanted
-pub data Serves {W G C S O X Z L : Type 0} (told : Tells W G C S O X Z) (outside : CommandOutside) (workers map text : List ℕ) (threads : ℕ) (wanted : GearWants) (s n : CommandSide G) (ended : CommandEnd L) : Type 0 where
-  NoFormat : LacksFormat s n ended → Serves told outside workers map text threads wanted s n ended
-  Unformatted : RefusesFormat text s n ended → Serves told outside workers map text threads wanted s n ended
+pub data DoesServe {W G C S O X Z L : Type 0} (told : Tells W G C S O X Z) (outside : CommandOutside) (workers map text : List ℕ) (threads : ℕ) (wanted : GearWants) (s n : CommandSide G) (ended : CommandEnd L) : Type 0 where
+  NoFormat : LacksFormat s n ended → DoesServe told outside workers map text threads wanted s n ended
+  Unformatted : RefusesFormat text s n ended → DoesServe told outside workers map text threads wanted s n ended
   Formatted : (format : List FormatPart) → IsFormat text format → ServesFiles told outside workers map format threads wanted s n ended
-      → Serves told outside workers map text threads wanted s n ended
+      → DoesServe told outside workers map text threads wanted s n ended
 
 -- The application of a container of this route: it asks for no secret, and a packet has at most 8,192 bytes.
 pub record IsAppOf (route : List ℕ) (app : AppConfig) : Type 0 where
@@ -244,5 +244,5 @@ ContainsAsked told order before after ended =
 -- `serve` over its files, whatever the input.
 abbrev pub ServesOrder : {F O W G C S Y X Z L : Type 0} → CommandTells F O W G C S Y X Z → ServeOrder → (before after : F × O × W) → CommandEnd L → Type 0
 ServesOrder told order before after ended =
-    OfFiles (told.files before.0) (λ outside. Serves told.world outside order.workers order.map (format_text order.format) order.threads (wants_by order)
+    OfFiles (told.files before.0) (λ outside. DoesServe told.world outside order.workers order.map (format_text order.format) order.threads (wants_by order)
     (command_side told before) (command_side told after) ended)

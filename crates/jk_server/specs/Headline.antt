@@ -20,10 +20,10 @@ use Rattle.exchange.specs.Requests.{sizes_of}
 use Rattle.lb_shared.specs.Histories.{AreDistinct, IsSiteHistory, SeatNote, noted, own_in, starts_of}
 use Rattle.lb_shared.specs.Sites.{AreSited}
 use Rattle.site_reports.specs.Starts.{AreStarts}
-use Rattle.lb_closing.specs.OneHistory.{IsWhole}
+use Rattle.lb_closing.specs.OneHistory.{IsOneHistory}
 use Rattle.site_config.specs.declared.balancer.Lb.{Lb}
 use Rattle.jk_server.specs.Served.{IsRun, IsStray, Run}
-use Rattle.jk_server.specs.Worker.{Keeps}
+use Rattle.jk_server.specs.Worker.{WorkerTells}
 use Rattle.jk_server.specs.declared.part.WorkerEnd.{WorkerEnd}
 use Rattle.jk_server.specs.declared.part.WorkerEnd.TheVariants as worker
 use Rattle.jk_server.specs.declared.runs.ends.Closing.{Closing}
@@ -54,7 +54,7 @@ pub record IsOneList {C S Y : Type 0} (lbs : List Lb) (workers : List (List (Run
   pub no_other : All (λ x. Contains numbers x.0) log
 
 -- Each client of these workers was served by a session of the worker's number.
-abbrev pub AreSessions : {C S Y X : Type 0} → (ℕ → Peer → Visit) → Ghosts C X → Keeps S Y → (number : ℕ) → List (List (Run C S Y)) → Type 0
+abbrev pub AreSessions : {C S Y X : Type 0} → (ℕ → Peer → Visit) → Ghosts C X → WorkerTells S Y → (number : ℕ) → List (List (Run C S Y)) → Type 0
 AreSessions visits told of number [] = Unit {0}
 AreSessions visits told of number (runs ∷ workers) = All (IsRun (visits number) told of) runs × AreSessions visits told of (number + 1) workers
 
@@ -78,7 +78,7 @@ HasBooks closing.NoMemory = ⊥
 
 -- The headline: the sessions of each worker, in order, with the stray that a worker's end names, and the one list that tells the
 -- same as they were told and made the Books that the closing took what they are.
-pub record IsHeadline {C S Y L X : Type 0} (visits : ℕ → Peer → Visit) (told : Ghosts C X) (of : Keeps S Y) (lbs : List Lb) (ends : List (WorkerEnd L)) (closing : Closing L) (books : List Journal) : Type 0 where
+pub record IsHeadline {C S Y L X : Type 0} (visits : ℕ → Peer → Visit) (told : Ghosts C X) (of : WorkerTells S Y) (lbs : List Lb) (ends : List (WorkerEnd L)) (closing : Closing L) (books : List Journal) : Type 0 where
   pub workers : List (List (Run C S Y))
   pub each : length workers ≡ length ends
   pub sessions : AreSessions visits told of 0 workers
@@ -98,4 +98,4 @@ pub record AreEnded (lbs : List Lb) (seats : List SeatNote) (books : List Journa
   pub at : ℕ
   pub begun : List Journal
   pub starts : AreStarts lbs at 0 begun
-  pub closed : IsWhole (starts_of begun) seats books
+  pub closed : IsOneHistory (starts_of begun) seats books

@@ -9,7 +9,7 @@ use Rattle.lb_shared.specs.declared.shelf.Shelf.{Ghosts as ShelfGhosts}
 use Rattle.client_session.specs.Requests.{Visit, visit}
 use Rattle.jk_io.specs.Doors.{DoorSide, side}
 use Rattle.gear_parts.specs.Logs.{LogTells}
-use Rattle.jk_server.specs.Worker.{Keeps, keeps, worker_side, WorkerSide}
+use Rattle.jk_server.specs.Worker.{WorkerTells, keeps, worker_side, WorkerSide}
 use Rattle.gear_parts.specs.declared.part.Part.{Part}
 use Rattle.jk_server.specs.declared.part.Post.{Post}
 
@@ -19,7 +19,7 @@ pub record PartTells (D R K S Y C X : Type 0) : Type 1 where
   pub link : Ghosts C X
   pub clock : K → Option (List ℕ)
   pub reach : Ghosts R Beside
-  pub keeps : Keeps S Y
+  pub keeps : WorkerTells S Y
 
 -- what they tell, by their types: `part_tells D.Door D.L.Meanings K.Clock R.Meanings S.Shelf ⟦<Y as ToldLog>⟧.told D.L.may_wait`
 abbrev pub part_tells : {D R K S Y C X : Type 0} → DoorGhosts D C X → Ghosts C X → ClockGhosts K → Ghosts R Beside → ShelfGhosts S → LogTells Y → Bool → PartTells D R K S Y C X

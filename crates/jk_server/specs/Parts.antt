@@ -11,7 +11,7 @@ use Rattle.site_config.specs.declared.config.Config.{Config}
 use Rattle.site_mounts.specs.declared.rule.Rule.{Rule}
 use Rattle.jk_server.specs.Served.{IsServed}
 use Rattle.jk_server.specs.PartTells.{PartTells, worker_of}
-use Rattle.jk_server.specs.Worker.{IsFit, Keeps, WorkerSide}
+use Rattle.jk_server.specs.Worker.{IsFit, WorkerTells, WorkerSide}
 use Rattle.conn_pool.specs.Watched.{WatchedState}
 use Rattle.request_log.specs.LogStates.{LogState}
 use Rattle.gear_parts.specs.GearParts.{DeskLeaves, gear_in, Start, start_with}
@@ -21,7 +21,7 @@ use Rattle.jk_server.specs.declared.part.WorkerEnd.{WorkerEnd}
 use Rattle.jk_server.specs.declared.workers.Slot.{Slot}
 
 -- A worker served its part, and may serve on with what it has. Its share keeps its parts.
-pub record IsWorked {C S Y L X : Type 0} (visit : Peer → Visit) (told : Ghosts C X) (of : Keeps S Y) (cfg : Config) (rules : List Rule) (before after : DoorSide C) (s n : WorkerSide S Y) (beside : Beside) (end : WorkerEnd L) : Type 0 where
+pub record IsWorked {C S Y L X : Type 0} (visit : Peer → Visit) (told : Ghosts C X) (of : WorkerTells S Y) (cfg : Config) (rules : List Rule) (before after : DoorSide C) (s n : WorkerSide S Y) (beside : Beside) (end : WorkerEnd L) : Type 0 where
   pub served : IsServed visit told of before after s n end
   pub fit : IsFit cfg rules n.desk.desk beside
   pub parts : n.desk.desk.parts ≡ s.desk.desk.parts
@@ -65,8 +65,8 @@ abbrev pub WorksSlot : {L D R K S W Y C X : Type 0} → PartTells D R K S Y C X 
 WorksSlot told cfg rules number before after = WorksPart told cfg rules number before.part after.part after.end
 
 -- Its worker ended: the desk holds no ticket, and no link is lent to the reach.
-abbrev pub IsOver : {L D G T K S W O C : Type 0} → Slot (Part L D (WatchedState G T C) K S W (Option (LogState O))) L → Type 0
-IsOver slot = (slot.part.desk.desk.held ≡ []) × (is_some slot.part.reach.pooled.lent ≡ false)
+abbrev pub WorkerIsOver : {L D G T K S W O C : Type 0} → Slot (Part L D (WatchedState G T C) K S W (Option (LogState O))) L → Type 0
+WorkerIsOver slot = (slot.part.desk.desk.held ≡ []) × (is_some slot.part.reach.pooled.lent ≡ false)
 
 -- Of a slot its part's gear was left, what its desk left, and how its worker ended.
 pub record LeavesSlot {L D G T K S W O C V : Type 0} {N : SiteGhosts L} (slot : Slot (Part L D (WatchedState G T C) K S W (Option (LogState O))) L) (gear : Gear D G T K S O) (left : Leaving L V N) (end : WorkerEnd L) : Type 0 where

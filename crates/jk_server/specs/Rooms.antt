@@ -10,7 +10,7 @@ pub record HasSpace {L V G : Type 0} (count : ℕ) (room : Ran L V G) : Type 0 w
   pub for_gears : vec_len room.gears + count ≤ vec_capacity room.gears
 
 -- Nothing was left yet, and there is room for what `count` workers leave.
-pub record HasRoom {L V G : Type 0} (count : ℕ) (room : Ran L V G) : Type 0 where
+pub record HasRoomForEnds {L V G : Type 0} (count : ℕ) (room : Ran L V G) : Type 0 where
   pub no_end : room.workers.items ≡ []
   pub no_left : room.leaving.items ≡ []
   pub no_gear : room.gears.items ≡ []

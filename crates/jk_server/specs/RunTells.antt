@@ -9,11 +9,11 @@ use Rattle.lb_model.specs.declared.segment.Segment.{Segment}
 use Rattle.jk_io.specs.Doors.{DoorSide, side}
 use Rattle.lb_shared.specs.declared.shelf.Shelf.{Ghosts as ShelfGhosts}
 use Rattle.request_log.specs.LogStates.{LogState}
-use Rattle.gear_parts.specs.GearLogs.{broken_by, Gains, GreetsIf, log_faults}
+use Rattle.gear_parts.specs.GearLogs.{broken_by, LogGains, GreetsIf, log_faults}
 use Rattle.gear_parts.specs.Gears.{gear_side, GearSide}
 use Rattle.gear_parts.specs.Logs.{log_tells}
 use Rattle.gear_parts.specs.declared.world.Gear.{Gear}
-use Rattle.jk_server.specs.Worker.{Keeps, keeps}
+use Rattle.jk_server.specs.Worker.{WorkerTells, keeps}
 
 -- The tellings of a door, a tape, a clock and a client's link, and of a shelf and a log.
 pub record RunTells (D T K S O C X : Type 0) : Type 1 where
@@ -22,11 +22,11 @@ pub record RunTells (D T K S O C X : Type 0) : Type 1 where
   pub answers : K → Option (List ℕ)
   pub link : Ghosts C X
   pub shelved : S → Option (List (ℕ × Segment))
-  pub keeps : Keeps S (Option (LogState O))
+  pub keeps : WorkerTells S (Option (LogState O))
 
 -- what is told of a shelf, and of logs that are written to this: `logging S.shelved S.faults O.Meanings D.L.may_wait`
-abbrev pub logging : {S O Z : Type 0} → (S → Option (List (ℕ × Segment))) → (S → ℕ) → Ghosts O Z → Bool → Keeps S (Option (LogState O))
-logging shelved faults told may_wait = keeps shelved faults (log_tells (Gains told) (λ s peer t. GreetsIf s peer t) (λ s. broken_by s) (λ s. log_faults told.faults s)) may_wait
+abbrev pub logging : {S O Z : Type 0} → (S → Option (List (ℕ × Segment))) → (S → ℕ) → Ghosts O Z → Bool → WorkerTells S (Option (LogState O))
+logging shelved faults told may_wait = keeps shelved faults (log_tells (LogGains told) (λ s peer t. GreetsIf s peer t) (λ s. broken_by s) (λ s. log_faults told.faults s)) may_wait
 
 -- what they tell, by their types: `run_tells D.Door T.Tape K.Clock D.L.Meanings S.Shelf O.Meanings D.L.may_wait`
 abbrev pub run_tells : {D T K S O C X Z : Type 0} → DoorGhosts D C X → TapeGhosts T → ClockGhosts K → Ghosts C X → ShelfGhosts S → Ghosts O Z → Bool → RunTells D T K S O C X

@@ -16,7 +16,7 @@ use Rattle.gear_parts.specs.Starts.{AreStarted}
 use Rattle.gear_parts.specs.declared.world.Gear.{Gear}
 use Rattle.jk_server.specs.Headline.{IsHeadline, told_in}
 use Rattle.jk_server.specs.Served.{IsServed}
-use Rattle.jk_server.specs.Worker.{Keeps, WorkerSide}
+use Rattle.jk_server.specs.Worker.{WorkerTells, WorkerSide}
 use Rattle.jk_server.specs.declared.part.WorkerEnd.{WorkerEnd}
 use Rattle.jk_server.specs.Closings.{Closes}
 use Rattle.jk_server.specs.RunTells.{gears_at, RunTells}
@@ -41,7 +41,7 @@ pub record IsNew {S : Type 0} (desk : SharedState S) : Type 0 where
 -- A worker served the clients of its gear's door, each by one session, in order, with the talks on its tape; it began a log of
 -- this format in what the gear has for it, where it has one. `end` is the worker's end. What its desk has seen as its own, at
 -- the seat that it left, is just what these sessions were told, in order.
-pub record IsServedGear {C S O L X : Type 0} (visit : Peer → Visit) (told : Ghosts C X) (of : Keeps S (Option (LogState O))) (format : List FormatPart) (before after : GearSide C S O) (seat : SeatNote) (end : WorkerEnd L) : Type 0 where
+pub record IsServedGear {C S O L X : Type 0} (visit : Peer → Visit) (told : Ghosts C X) (of : WorkerTells S (Option (LogState O))) (format : List FormatPart) (before after : GearSide C S O) (seat : SeatNote) (end : WorkerEnd L) : Type 0 where
   pub from : WorkerSide S (Option (LogState O))
   pub to : WorkerSide S (Option (LogState O))
   pub first : WorksWith before from
@@ -53,7 +53,7 @@ pub record IsServedGear {C S O L X : Type 0} (visit : Peer → Visit) (told : Gh
   pub own : own_in seat.number seat.seen ≡ noted (told_in served.runs)
 
 -- Each gear was served, in order, by the worker of its number.
-abbrev pub AreServedGears : {C S O L X : Type 0} → (ℕ → Peer → Visit) → Ghosts C X → Keeps S (Option (LogState O)) → List FormatPart → (number : ℕ) → (before after : List (GearSide C S O)) → List SeatNote → List (WorkerEnd L) → Type 0
+abbrev pub AreServedGears : {C S O L X : Type 0} → (ℕ → Peer → Visit) → Ghosts C X → WorkerTells S (Option (LogState O)) → List FormatPart → (number : ℕ) → (before after : List (GearSide C S O)) → List SeatNote → List (WorkerEnd L) → Type 0
 AreServedGears visits told of format number [] [] [] [] = Unit {0}
 AreServedGears visits told of format number (b ∷ before) (a ∷ after) (s ∷ seats) (e ∷ ends) =
     IsServedGear (visits number) told of format b a s e × AreServedGears visits told of format (number + 1) before after seats ends
@@ -61,7 +61,7 @@ AreServedGears visits told of format number _ _ _ _ = ⊥
 
 -- The gears as they were handed in and as they came back, how each worker ended, and how the closing did with the Books that it
 -- took; and what the run comes to, by these very Books.
-pub record IsSiteRun {C S O L X : Type 0} (visits : ℕ → Peer → Visit) (told : Ghosts C X) (shelved : S → Option (List (ℕ × Segment))) (of : Keeps S (Option (LogState O))) (format : List FormatPart) (lbs : List Lb) (before back : List (GearSide C S O)) (ends : List (WorkerEnd L)) (closing : Closing L) : Type 0 where
+pub record IsSiteRun {C S O L X : Type 0} (visits : ℕ → Peer → Visit) (told : Ghosts C X) (shelved : S → Option (List (ℕ × Segment))) (of : WorkerTells S (Option (LogState O))) (format : List FormatPart) (lbs : List Lb) (before back : List (GearSide C S O)) (ends : List (WorkerEnd L)) (closing : Closing L) : Type 0 where
   pub begun : List (GearSide C S O)
   pub left : List (GearSide C S O)
   pub started : AreStarted before begun

@@ -21,7 +21,7 @@ use Rattle.status_worker.specs.Desks.{KeepsTickets}
 use Rattle.lb_shared.specs.Histories.{HasGone}
 use Rattle.lb_shared.specs.SharedDesks.{SharedState}
 use Rattle.lb_shared.specs.Shelves.{HasShelved}
-use Rattle.jk_server.specs.Worker.{Begins, Keeps, Rests, shelf_of, standing_with, took, WorkerSide}
+use Rattle.jk_server.specs.Worker.{BeginsSession, WorkerTells, Rests, shelf_of, standing_with, took, WorkerSide}
 use Rattle.jk_server.specs.PartTells.{PartTells, worker_of}
 use Rattle.gear_parts.specs.declared.part.Part.{Part}
 use Rattle.jk_server.specs.declared.part.WorkerEnd.{WorkerEnd}
@@ -42,7 +42,7 @@ pub record Run (C S Y : Type 0) : Type 0 where
 -- receipts of this worker alone, and the desk holds the tickets that it held. Only a client whose reads may wait was left
 -- while it waited. What the desk was told in the session is just what its seat has seen besides as its own. Its shelf was only
 -- added to, its faults and wants didn't fall, and it forgot no receipt.
-pub record IsRun {C S Y X : Type 0} (visit : Peer → Visit) (told : Ghosts C X) (of : Keeps S Y) (r : Run C S Y) : Type 0 where
+pub record IsRun {C S Y X : Type 0} (visit : Peer → Visit) (told : Ghosts C X) (of : WorkerTells S Y) (r : Run C S Y) : Type 0 where
   pub session : Serves (visit r.peer) (standing_with r.from (client_at told r.link)) (standing_with r.to (client_at told r.back))
       (λ gained. of.log.gained r.from.log gained r.to.log) r.end
   pub parts : HasParts (visit r.peer) (standing_with r.from (client_at told r.link) []) (standing_with r.to (client_at told r.back) []) r.end
@@ -88,13 +88,13 @@ DeskEnds faults from to end worker.NoMemory =
     ((end ≡ stop.NoMemory) ⊎ (from.wants < to.wants)) × (faults to.shelf ≡ faults from.shelf) × (IsStray end → ⊥)
 
 -- A worker goes on, if its log took each row besides.
-pub record GoesOn {S Y : Type 0} (of : Keeps S Y) (from to : WorkerSide S Y) (end : SessionEnd) : Type 0 where
+pub record WorkerGoesOn {S Y : Type 0} (of : WorkerTells S Y) (from to : WorkerSide S Y) (end : SessionEnd) : Type 0 where
   pub desk : DeskGoesOn of.shelf_faults from.desk to.desk end.stop
   pub logged : of.log.broken_by to.log ≡ None
 
 -- Why a worker ended right after a session. A log that broke goes before all that its desk says, since it alone leaves rows
 -- out.
-abbrev pub EndsAfter : {S Y L : Type 0} → Keeps S Y → (from to : WorkerSide S Y) → SessionEnd → WorkerEnd L → Type 0
+abbrev pub EndsAfter : {S Y L : Type 0} → WorkerTells S Y → (from to : WorkerSide S Y) → SessionEnd → WorkerEnd L → Type 0
 EndsAfter {L = L} of from to end (worker.Closed sessions) = DeskEnds {L = L} of.shelf_faults from.desk to.desk end.stop (worker.Closed sessions)
 EndsAfter {L = L} of from to end worker.DoorFault = DeskEnds {L = L} of.shelf_faults from.desk to.desk end.stop worker.DoorFault
 EndsAfter {L = L} of from to end worker.ShelfFault =
@@ -118,19 +118,19 @@ left_by worker.NoMemory d = d
 -- Sessions one after another, after each of which the worker rested and went on. Each begins with what the one before
 -- left: their talks, joined in order, are those that the reach gained, their receipts those that the desk gained, and their
 -- rows those that the log gained.
-abbrev pub HaveRested : {C S Y : Type 0} → Keeps S Y → WorkerSide S Y → List (Run C S Y) → WorkerSide S Y → Type 0
+abbrev pub HaveRested : {C S Y : Type 0} → WorkerTells S Y → WorkerSide S Y → List (Run C S Y) → WorkerSide S Y → Type 0
 HaveRested of s [] n = n ≡ s
 HaveRested {C} {S} {Y} of s (r ∷ runs) n =
-    (mid : WorkerSide S Y) × Begins of.log s r.peer r.from × GoesOn of r.from r.to r.end × Rests r.to mid × HaveRested of mid runs n
+    (mid : WorkerSide S Y) × BeginsSession of.log s r.peer r.from × WorkerGoesOn of r.from r.to r.end × Rests r.to mid × HaveRested of mid runs n
 
 -- The worker ended right after the last of its sessions.
-pub record EndsAtLast {C S Y L : Type 0} (of : Keeps S Y) (s n : WorkerSide S Y) (runs : List (Run C S Y)) (end : WorkerEnd L) : Type 0 where
+pub record EndsAtLast {C S Y L : Type 0} (of : WorkerTells S Y) (s n : WorkerSide S Y) (runs : List (Run C S Y)) (end : WorkerEnd L) : Type 0 where
   pub before : List (Run C S Y)
   pub last : Run C S Y
   pub mid : WorkerSide S Y
   pub split : runs ≡ before ++ last ∷ []
   pub rested : HaveRested of s before mid
-  pub begins : Begins of.log mid last.peer last.from
+  pub begins : BeginsSession of.log mid last.peer last.from
   pub why : EndsAfter of last.from last.to last.end end
   pub left : n ≡ record last.to { desk = left_by end last.to.desk }
 
@@ -140,7 +140,7 @@ count_of runs = min (length runs) 18446744073709551615
 
 -- Why a worker ended that served these clients. Only the last session ended by a stray or in want of memory. Where it ended
 -- since no client comes any more, no call of its door had failed.
-abbrev pub EndsBy : {C S Y L : Type 0} → Keeps S Y → (before after : DoorSide C) → (s n : WorkerSide S Y) → List (Run C S Y) → WorkerEnd L → Type 0
+abbrev pub EndsBy : {C S Y L : Type 0} → WorkerTells S Y → (before after : DoorSide C) → (s n : WorkerSide S Y) → List (Run C S Y) → WorkerEnd L → Type 0
 EndsBy of before after s n runs (worker.Closed sessions) =
     (sessions ≡ count_of runs) × HaveRested of s runs n × IsEmpty after.coming × (after.faults ≡ before.faults)
 EndsBy of before after s n runs worker.DoorFault = HaveRested of s runs n × Rose before.faults after.faults
@@ -152,7 +152,7 @@ EndsBy {L = L} of before after s n runs worker.NoMemory =
 
 -- All that a worker did: the clients that came from its door, in order, were served, each by one session, and were left
 -- in that order.
-pub record IsServed {C S Y L X : Type 0} (visit : Peer → Visit) (told : Ghosts C X) (of : Keeps S Y) (before after : DoorSide C) (s n : WorkerSide S Y) (end : WorkerEnd L) : Type 0 where
+pub record IsServed {C S Y L X : Type 0} (visit : Peer → Visit) (told : Ghosts C X) (of : WorkerTells S Y) (before after : DoorSide C) (s n : WorkerSide S Y) (end : WorkerEnd L) : Type 0 where
   pub runs : List (Run C S Y)
   pub clients : GaveAndGot before after (map (λ r. (r.link, r.peer)) runs) (map (λ r. r.back) runs)
   pub sessions : All (IsRun visit told of) runs
@@ -172,17 +172,17 @@ SettlesBy (Some io.Failed) faults from to n end settled = (settled ≡ Some work
 SettlesBy (Some io.NoMemory) faults from to n end settled = (settled ≡ Some worker.NoMemory) × (n ≡ to)
 
 -- The same of the worker.
-abbrev pub Settles : {S Y L : Type 0} → Keeps S Y → (from to : WorkerSide S Y) → (n : SharedState S) → SessionEnd → Option (WorkerEnd L) → Type 0
-Settles of from to n end None = GoesOn of from to end × (n ≡ to.desk)
+abbrev pub Settles : {S Y L : Type 0} → WorkerTells S Y → (from to : WorkerSide S Y) → (n : SharedState S) → SessionEnd → Option (WorkerEnd L) → Type 0
+Settles of from to n end None = WorkerGoesOn of from to end × (n ≡ to.desk)
 Settles of from to n end (Some worker_end) = EndsAfter of from to end worker_end × (n ≡ left_by worker_end to.desk)
 
 -- A client was served by one session, its link was left, and the worker goes on or ends by that session.
-pub record ServesClient {C S Y L X : Type 0} (visit : Peer → Visit) (told : Ghosts C X) (of : Keeps S Y) (before after : DoorSide C) (s n : WorkerSide S Y) (link : C) (peer : Peer) (end : Option (WorkerEnd L)) : Type 0 where
+pub record ServesClient {C S Y L X : Type 0} (visit : Peer → Visit) (told : Ghosts C X) (of : WorkerTells S Y) (before after : DoorSide C) (s n : WorkerSide S Y) (link : C) (peer : Peer) (end : Option (WorkerEnd L)) : Type 0 where
   pub back : C
   pub from : WorkerSide S Y
   pub to : WorkerSide S Y
   pub session_end : SessionEnd
-  pub begins : Begins of.log s peer from
+  pub begins : BeginsSession of.log s peer from
   pub run : IsRun visit told of (record { link = link; peer = peer; back = back; from = from; to = to; end = session_end })
   pub settles : Settles of from to n.desk session_end end
   pub same : n ≡ record to { desk = n.desk }
@@ -191,13 +191,13 @@ pub record ServesClient {C S Y L X : Type 0} (visit : Peer → Visit) (told : Gh
   pub door_faults : after.faults ≡ before.faults
 
 -- A client was served, and then the worker rested.
-pub record ServesOn {C S Y L X : Type 0} (visit : Peer → Visit) (told : Ghosts C X) (of : Keeps S Y) (before after : DoorSide C) (s n : WorkerSide S Y) (link : C) (peer : Peer) (none : Option (WorkerEnd L)) : Type 0 where
+pub record ServesOn {C S Y L X : Type 0} (visit : Peer → Visit) (told : Ghosts C X) (of : WorkerTells S Y) (before after : DoorSide C) (s n : WorkerSide S Y) (link : C) (peer : Peer) (none : Option (WorkerEnd L)) : Type 0 where
   pub mid : WorkerSide S Y
   pub serves : ServesClient visit told of before after s mid link peer none
   pub rests : Rests mid n
 
 -- After a client the worker rests and goes on, or ends: at once, or because its reach wanted memory to rest.
-abbrev pub ServesNext : {C S Y L X : Type 0} → (visit : Peer → Visit) → (told : Ghosts C X) → Keeps S Y → (before after : DoorSide C) → (s n : WorkerSide S Y) → (link : C) → (peer : Peer) → Option (WorkerEnd L) → Type 0
+abbrev pub ServesNext : {C S Y L X : Type 0} → (visit : Peer → Visit) → (told : Ghosts C X) → WorkerTells S Y → (before after : DoorSide C) → (s n : WorkerSide S Y) → (link : C) → (peer : Peer) → Option (WorkerEnd L) → Type 0
 ServesNext {L = L} visit told of before after s n link peer None = ServesOn {L = L} visit told of before after s n link peer None
 ServesNext {L = L} visit told of before after s n link peer (Some end) =
     ServesClient visit told of before after s n link peer (Some end)

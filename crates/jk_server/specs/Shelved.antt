@@ -8,7 +8,7 @@ use Rattle.lb_model.specs.declared.opening.Opening.{Opening}
 use Rattle.lb_shared.specs.Histories.{SeatNote}
 use Rattle.lb_shared.specs.Sites.{AreSited}
 use Rattle.lb_closing.specs.Closings.{DiscordNote}
-use Rattle.lb_closing.specs.OneHistory.{DiffersWhole, IsWhole}
+use Rattle.lb_closing.specs.OneHistory.{DiffersWhole, IsOneHistory}
 use Rattle.gear_parts.specs.declared.world.Gear.{Gear}
 use Rattle.gear_parts.specs.Cuts.{AddsCuts, AddsFront, ToFirst}
 use Rattle.jk_server.specs.declared.runs.ends.Closing.{Closing}
@@ -17,7 +17,7 @@ use Rattle.jk_server.specs.declared.runs.ends.Closing.TheVariants as closing
 -- The Books at the end, with the history that made them what they are.
 pub record AreClosed (sizes firsts : List ℕ) (starts : List Opening) (seats : List SeatNote) (books : List Journal) : Type 0 where
   pub sited : AreSited sizes firsts books
-  pub history : IsWhole starts seats books
+  pub history : IsOneHistory starts seats books
 
 -- The Books at the end were cut, and `Kept` says what became of them on the first gear's shelf. Else the gears came back as the
 -- workers left them.

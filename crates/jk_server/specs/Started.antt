@@ -23,7 +23,7 @@ use Rattle.jk_server.specs.Closings.{Closes}
 use Rattle.jk_server.specs.Headline.{firsts_of}
 use Rattle.jk_server.specs.Runs.{AreServedGears}
 use Rattle.jk_server.specs.RunTells.{gears_at, RunTells}
-use Rattle.jk_server.specs.Worker.{Keeps}
+use Rattle.jk_server.specs.Worker.{WorkerTells}
 use Rattle.jk_server.specs.declared.runs.ends.Closing.{Closing}
 use Rattle.jk_server.specs.declared.runs.ends.SiteRun.{SiteRun}
 use Rattle.jk_server.specs.declared.runs.new_site.NewSite.{NewSite}
@@ -46,7 +46,7 @@ pub record IsNewSite (name parts : ℕ) (starts : List Opening) (sizes firsts : 
   pub begun : starts ≡ starts_of new.books
 
 -- These gears can work, a worker with each, and each has one of the parts.
-pub record IsReady {D G T K S O : Type 0} (is_idle : T → Type 0) (parts : ℕ) (cfg : Config) (rules : List Rule) (count : ℕ) (gears : List (Gear D G T K S O)) : Type 0 where
+pub record AreReady {D G T K S O : Type 0} (is_idle : T → Type 0) (parts : ℕ) (cfg : Config) (rules : List Rule) (count : ℕ) (gears : List (Gear D G T K S O)) : Type 0 where
   pub each : parts ≡ count
   pub some : 0 < count
   pub few : count ≤ 64
@@ -54,7 +54,7 @@ pub record IsReady {D G T K S O : Type 0} (is_idle : T → Type 0) (parts : ℕ)
   pub idle : All (λ g. is_idle g.tape) gears
 
 -- The workers served with the gears as they were at the start, and the closing ended so.
-pub record IsStartedRun {C S O L X : Type 0} (visits : ℕ → Peer → Visit) (told : Ghosts C X) (shelved : S → Option (List (ℕ × Segment))) (of : Keeps S (Option (LogState O))) (format : List FormatPart) (lbs : List Lb) (begun back : List (GearSide C S O)) (ends : List (WorkerEnd L)) (closing : Closing L) : Type 0 where
+pub record IsStartedRun {C S O L X : Type 0} (visits : ℕ → Peer → Visit) (told : Ghosts C X) (shelved : S → Option (List (ℕ × Segment))) (of : WorkerTells S (Option (LogState O))) (format : List FormatPart) (lbs : List Lb) (begun back : List (GearSide C S O)) (ends : List (WorkerEnd L)) (closing : Closing L) : Type 0 where
   pub left : List (GearSide C S O)
   pub seats : List SeatNote
   pub served : AreServedGears visits told of format 0 begun left seats ends

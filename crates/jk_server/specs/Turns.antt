@@ -10,13 +10,13 @@ use Rattle.site_mounts.specs.declared.rule.Rule.{Rule}
 use Rattle.gear_parts.specs.declared.part.Part.{Part}
 use Rattle.jk_server.specs.PartTells.{PartTells, visit_at, worker_of}
 use Rattle.jk_server.specs.Served.{count_of, HaveRested, IsRun, IsServed, Run, ServesPartClient}
-use Rattle.jk_server.specs.Worker.{IsFit, Keeps, Rests, WorkerSide}
+use Rattle.jk_server.specs.Worker.{IsFit, WorkerTells, Rests, WorkerSide}
 use Rattle.jk_server.specs.declared.part.Post.{Post}
 use Rattle.jk_server.specs.declared.part.WorkerEnd.{WorkerEnd}
 use Rattle.jk_server.specs.declared.part.WorkerEnd.TheVariants as worker
 
 -- These clients were served, the worker rested after each, no call of its door failed, and its log took each row.
-pub record IsUnderWay {C S Y X : Type 0} (visit : Peer → Visit) (told : Ghosts C X) (of : Keeps S Y) (first now : DoorSide C) (s n : WorkerSide S Y) (count : ℕ) : Type 0 where
+pub record IsUnderWay {C S Y X : Type 0} (visit : Peer → Visit) (told : Ghosts C X) (of : WorkerTells S Y) (first now : DoorSide C) (s n : WorkerSide S Y) (count : ℕ) : Type 0 where
   pub runs : List (Run C S Y)
   pub clients : GaveAndGot first now (map (λ r. (r.link, r.peer)) runs) (map (λ r. r.back) runs)
   pub sessions : All (IsRun visit told of) runs
@@ -26,7 +26,7 @@ pub record IsUnderWay {C S Y X : Type 0} (visit : Peer → Visit) (told : Ghosts
   pub logged : of.log.broken_by n.log ≡ None
 
 -- One more client was served, and the worker goes on; or it ended.
-abbrev pub GoesOrEnds : {C S Y L X : Type 0} → (Peer → Visit) → Ghosts C X → Keeps S Y → (first now : DoorSide C) → (s n : WorkerSide S Y) → (count : ℕ) → Option (WorkerEnd L) → Type 0
+abbrev pub GoesOrEnds : {C S Y L X : Type 0} → (Peer → Visit) → Ghosts C X → WorkerTells S Y → (first now : DoorSide C) → (s n : WorkerSide S Y) → (count : ℕ) → Option (WorkerEnd L) → Type 0
 GoesOrEnds visit told of first now s n count None = IsUnderWay visit told of first now s n (min (count + 1) 18446744073709551615)
 GoesOrEnds visit told of first now s n count (Some end) = IsServed visit told of first now s n end
 

@@ -34,18 +34,18 @@ worker_side answers told desk clock reach log = record {
 }
 
 -- The tellings of a worker's shelf and of its log, and whether a read of its clients may wait.
-pub record Keeps (S Y : Type 0) : Type 1 where
+pub record WorkerTells (S Y : Type 0) : Type 1 where
   pub shelved : S → Option (List (ℕ × Segment))
   pub shelf_faults : S → ℕ
   pub log : LogTells Y
   pub may_wait : Bool
 
 -- by their types: `keeps S.shelved S.faults ⟦<Y as ToldLog>⟧.told D.L.may_wait`
-abbrev pub keeps : {S Y : Type 0} → (S → Option (List (ℕ × Segment))) → (S → ℕ) → LogTells Y → Bool → Keeps S Y
+abbrev pub keeps : {S Y : Type 0} → (S → Option (List (ℕ × Segment))) → (S → ℕ) → LogTells Y → Bool → WorkerTells S Y
 keeps shelved shelf_faults log may_wait = record { shelved = shelved; shelf_faults = shelf_faults; log = log; may_wait = may_wait }
 
 -- what is told of a desk's shelf
-abbrev pub shelf_of : {S Y : Type 0} → Keeps S Y → SharedState S → ShelfNote
+abbrev pub shelf_of : {S Y : Type 0} → WorkerTells S Y → SharedState S → ShelfNote
 shelf_of of desk = shelf_note of.shelved of.shelf_faults desk
 
 -- what a session of this worker knows then, over a client and the client's bytes that were read and not used
@@ -62,7 +62,7 @@ abbrev pub forgot : {S Y : Type 0} → WorkerSide S Y → WorkerSide S Y
 forgot w = record w { desk = forgot_desk w.desk }
 
 -- A session begins with what the worker has then: the desk forgot its receipts, and the log was told of the client.
-pub record Begins {S Y : Type 0} (log : LogTells Y) (w : WorkerSide S Y) (peer : Peer) (n : WorkerSide S Y) : Type 0 where
+pub record BeginsSession {S Y : Type 0} (log : LogTells Y) (w : WorkerSide S Y) (peer : Peer) (n : WorkerSide S Y) : Type 0 where
   pub greeted : log.greets w.log peer n.log
   pub same : n ≡ record (forgot w) { log = n.log }
 

@@ -3,9 +3,9 @@ ghost use Rattle.std.specs.Prelude.{◌≡◌, ◌+◌, ◌<◌, ◌≤◌, ℕ,
 ghost use Rattle.std.specs.List.{All};
 ghost use Rattle.gear_parts.specs.GearParts.{start_by};
 ghost use Rattle.gear_parts.specs.Putting.{PutsOne};
-ghost use Rattle.jk_server.specs.Parts.{AllFour, AreDone, InEach, IsOver, LeavesSlot, WorksSlot, slot_start};
+ghost use Rattle.jk_server.specs.Parts.{AllFour, AreDone, InEach, WorkerIsOver, LeavesSlot, WorksSlot, slot_start};
 ghost use Rattle.jk_server.specs.PartTells.{part_tells};
-ghost use Rattle.jk_server.specs.Rooms.{HasRoom, HasSpace, PutsLeft};
+ghost use Rattle.jk_server.specs.Rooms.{HasRoomForEnds, HasSpace, PutsLeft};
 ghost use Rattle.jk_server.specs.Worker.{MayBegin};
 
 use crate::part::{Ran, WorkerEnd};
@@ -225,7 +225,7 @@ pub(crate) fn room_for<L, V: Drop, G: Drop>(
     alloc: Global,
     count: usize,
 ) -> Result<Ran<L, V, G>, NoMemory>
-    ensures { IfOk result (λ r. HasRoom count r) }
+    ensures { IfOk result (λ r. HasRoomForEnds count r) }
 {
     Ok(Ran {
         workers: Vec::with_capacity(alloc, count)?,
@@ -250,8 +250,8 @@ pub(crate) fn empty_slots<
     slots: Vec<GearSlot<'s, 'r, L, D, G, T, K, S, O, R>>,
     ran: &mut Ran<L, Leaving<L, ()>, Gear<D, G, T, K, S, O>>,
 )
-    requires over { All (λ s. IsOver s) slots.items }
-    requires room { HasRoom (vec_len slots) ran.old }
+    requires over { All (λ s. WorkerIsOver s) slots.items }
+    requires room { HasRoomForEnds (vec_len slots) ran.old }
     ensures { AllFour (λ s gear left end. LeavesSlot s gear left end)
         slots.entry.items ran.new.gears.items ran.new.leaving.items ran.new.workers.items }
 {
@@ -275,8 +275,8 @@ fn empty_each<
     slots: &mut IntoIter<GearSlot<'s, 'r, L, D, G, T, K, S, O, R>>,
     ran: &mut Ran<L, Leaving<L, ()>, Gear<D, G, T, K, S, O>>,
 )
-    requires over { All (λ s. IsOver s) slots.old.rest.items }
-    requires room { HasRoom (length slots.old.rest.items) ran.old }
+    requires over { All (λ s. WorkerIsOver s) slots.old.rest.items }
+    requires room { HasRoomForEnds (length slots.old.rest.items) ran.old }
     ensures { AllFour (λ s gear left end. LeavesSlot s gear left end)
         slots.old.rest.items ran.new.gears.items ran.new.leaving.items ran.new.workers.items }
 {
@@ -290,7 +290,7 @@ fn empty_each<
 fn leave_slot<'s, 'r, L: SiteName, D, G: Dial, T: Tape, K, S: Shelf, O: Timed, R>(
     slot: GearSlot<'s, 'r, L, D, G, T, K, S, O, R>,
 ) -> (Gear<D, G, T, K, S, O>, Leaving<L, ()>, WorkerEnd<L>)
-    requires over { IsOver slot }
+    requires over { WorkerIsOver slot }
     ensures left { LeavesSlot slot.entry result.0 result.1 result.2 }
 {
     let Slot { part, end } = slot;

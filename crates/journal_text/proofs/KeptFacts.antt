@@ -5,7 +5,7 @@ use Rattle.std.proofs.lemmas.List.Elements.{All-nil, All-cons, All-append}
 use Rattle.lb_model.specs.Segments.{AreKeptEntries, IsKeptEntry}
 use Rattle.lb_model.specs.declared.journal.Entry.{Entry}
 use Rattle.journal_text.specs.Ranges.{HasTicket, IsKeptCall}
-use Rattle.journal_text.specs.Kept.{IsKept}
+use Rattle.journal_text.specs.Kept.{IsKeptSegment}
 use Rattle.journal_text.specs.declared.counted.Counted.{Counted}
 
 kept_entry : (v : ℕ) (e : Entry) → HasTicket e.seq e.answer → IsKeptCall v e.call → IsKeptEntry v e
@@ -28,5 +28,5 @@ kept_more v entries e h ticket asked = record {
   at = λ i x found. ⊎_elim (λ former. h.at i x former) (λ same. subst (IsKeptEntry v) same (kept_entry v e ticket asked)) (at_end entries e i x found);
 }
 
-pub done_more : (done : List Counted) (c : Counted) → All IsKept done → IsKept c → All IsKept (done ++ c ∷ [])
-done_more done c h k = All-append IsKept done (c ∷ []) h (All-cons IsKept c [] k (All-nil IsKept))
+pub done_more : (done : List Counted) (c : Counted) → All IsKeptSegment done → IsKeptSegment c → All IsKeptSegment (done ++ c ∷ [])
+done_more done c h k = All-append IsKeptSegment done (c ∷ []) h (All-cons IsKeptSegment c [] k (All-nil IsKeptSegment))

@@ -1,7 +1,7 @@
 -- A configuration is never refused, and a value out of its range makes no opening.
 use Rattle.std.proofs.Common.{◌≡◌, ℕ, suc, zero, ◌<◌, List, [], ◌∷◌, length, refl, sym, subst, arith}
 use Rattle.std.specs.Prelude.{Some, slice_get}
-use Rattle.lb_model.specs.Ranges.{IsRefused}
+use Rattle.lb_model.specs.Ranges.{IsRefusedConfig}
 use Rattle.lb_model.specs.declared.config.LbConfig.{LbConfig}
 use Rattle.lb_model.specs.declared.config_error.ConfigError.{ConfigError}
 use Rattle.lb_model.specs.declared.config_error.ConfigError.TheVariants as refusal
@@ -14,7 +14,7 @@ nth [] m h = absurd (omega (arith, h))
 nth (x ∷ xs) zero h = (x, refl)
 nth (x ∷ xs) (suc m) h = nth xs m (omega (arith, h))
 
-not_refused : (c : LbConfig) (e : ConfigError) → IsRefused c.maintain c.recover c.members e → ⊥
+not_refused : (c : LbConfig) (e : ConfigError) → IsRefusedConfig c.maintain c.recover c.members e → ⊥
 not_refused c refusal.NoMembers h = omega (arith, h, c.count.some)
 not_refused c refusal.TooMany h = omega (arith, h, c.count.few)
 not_refused c (refusal.BadMember i) h =
@@ -24,9 +24,9 @@ not_refused c refusal.BadTime h = h.2 (c.maintains, c.recovers)
 not_refused c refusal.TooWide h = omega (arith, h.4, c.narrow)
 
 -- where the values of the lines are refused, there is no configuration of them
-pub refused_none : (d : OpeningDraft) (c : LbConfig) (e : ConfigError) → IsConfigured d c → IsRefused d.values.maintain d.values.recover d.members e → ⊥
+pub refused_none : (d : OpeningDraft) (c : LbConfig) (e : ConfigError) → IsConfigured d c → IsRefusedConfig d.values.maintain d.values.recover d.members e → ⊥
 refused_none d c e h refused =
     not_refused c e
-    (subst (λ ms. IsRefused c.maintain c.recover ms e) (sym h.members)
-    (subst (λ r. IsRefused c.maintain r d.members e) (sym h.recover)
-    (subst (λ m. IsRefused m d.values.recover d.members e) (sym h.maintain) refused)))
+    (subst (λ ms. IsRefusedConfig c.maintain c.recover ms e) (sym h.members)
+    (subst (λ r. IsRefusedConfig c.maintain r d.members e) (sym h.recover)
+    (subst (λ m. IsRefusedConfig m d.values.recover d.members e) (sym h.maintain) refused)))

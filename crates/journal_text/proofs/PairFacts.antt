@@ -5,7 +5,7 @@ use Rattle.std.proofs.lemmas.List.{get_or_append_left}
 use Rattle.std.proofs.lemmas.List.Elements.{All-nil}
 use Rattle.lb_model.proofs.ListFacts.{reverse_snoc}
 use Rattle.lb_model.specs.declared.segment.Segment.{Segment}
-use Rattle.journal_text.specs.Kept.{IsKept}
+use Rattle.journal_text.specs.Kept.{IsKeptSegment}
 use Rattle.journal_text.specs.Pairs.{ArePairsOf, IsPairOf}
 use Rattle.journal_text.specs.declared.counted.Counted.{Counted}
 
@@ -31,13 +31,13 @@ split_all all left pairs h none =
     subst (λ cs. ArePairsOf cs (reverse pairs)) (sym (h.whole ∙ ap (λ x. x ++ h.taken) none)) h.paired
 
 -- what is kept of all is kept of all but the last one
-pub kept_left : (all left : List Counted) (c : Counted) → all ≡ left ++ c ∷ [] → All IsKept all → All IsKept left
+pub kept_left : (all left : List Counted) (c : Counted) → all ≡ left ++ c ∷ [] → All IsKeptSegment all → All IsKeptSegment left
 kept_left all left c last h = λ k d inside.
-    subst IsKept (get_or_append_left left (c ∷ []) d k inside)
-    (subst (All IsKept) last h k d (omega (arith, inside, length-append left (c ∷ []))))
+    subst IsKeptSegment (get_or_append_left left (c ∷ []) d k inside)
+    (subst (All IsKeptSegment) last h k d (omega (arith, inside, length-append left (c ∷ []))))
 
 -- what is kept of all is kept of those that are left where the last one was taken off, if there was one
 pub kept_rest : (all left : List Counted) (last : Option Counted) → IfNone last ((all ≡ []) × (left ≡ [])) → IfSome last (λ c. all ≡ left ++ c ∷ [])
-    → All IsKept all → All IsKept left
-kept_rest all left None none some h = subst (All IsKept) (sym none.1) (All-nil IsKept)
+    → All IsKeptSegment all → All IsKeptSegment left
+kept_rest all left None none some h = subst (All IsKeptSegment) (sym none.1) (All-nil IsKeptSegment)
 kept_rest all left (Some c) none some h = kept_left all left c some h

@@ -16,7 +16,7 @@ use Rattle.journal_text.specs.declared.line.Beginning.{Beginning}
 use Rattle.journal_text.specs.declared.line.Line.{Line}
 use Rattle.journal_text.specs.declared.line.Line.TheVariants as line
 use Rattle.journal_text.specs.Openings.{AreCounted, IsConfigured, IsOpened}
-use Rattle.journal_text.specs.Reading.{Heads, Opens, TextOutcome, Reads, TakesAt, TakesText, opened, unreadable}
+use Rattle.journal_text.specs.Reading.{Heads, Opens, TextOutcome, ReadsLines, TakesAt, TakesText, opened, unreadable}
 use Rattle.journal_text.specs.declared.draft.OpeningDraft.{OpeningDraft}
 use Rattle.journal_text.specs.declared.reader.TextPlace.{TextPlace}
 use Rattle.journal_text.specs.declared.reader.TextPlace.TheVariants as place
@@ -128,14 +128,14 @@ pub takes_once : (r : Reader) (text : List ℕ) (f g : Option Reader) → TakesT
 takes_once r text f g h k = line_once r (line_of r.rules text) f g h k
 
 -- the lines from here on are read in one way
-pub reads_once : (r : Reader) (number : ℕ) (lines : List (List ℕ)) (o p : TextOutcome) → Reads r number lines o → Reads r number lines p → o ≡ p
+pub reads_once : (r : Reader) (number : ℕ) (lines : List (List ℕ)) (o p : TextOutcome) → ReadsLines r number lines o → ReadsLines r number lines p → o ≡ p
 reads_once r number [] o p h k = absurd h
 reads_once r number (last ∷ []) o p h k = h ∙ sym k
 reads_once r number (text ∷ next ∷ lines) o p h k =
     let same = takes_once r text h.0 k.0 h.1 k.1 in
-    let moved = subst (λ f. MatchOption f (p ≡ unreadable number) (λ q. Reads q (number + 1) (next ∷ lines) p)) (sym same) k.2 in
-    (elim h.0 as (λ f. MatchOption f (o ≡ unreadable number) (λ q. Reads q (number + 1) (next ∷ lines) o)
-    → MatchOption f (p ≡ unreadable number) (λ q. Reads q (number + 1) (next ∷ lines) p) → o ≡ p) [
+    let moved = subst (λ f. MatchOption f (p ≡ unreadable number) (λ q. ReadsLines q (number + 1) (next ∷ lines) p)) (sym same) k.2 in
+    (elim h.0 as (λ f. MatchOption f (o ≡ unreadable number) (λ q. ReadsLines q (number + 1) (next ∷ lines) o)
+    → MatchOption f (p ≡ unreadable number) (λ q. ReadsLines q (number + 1) (next ∷ lines) p) → o ≡ p) [
       | None ↦ λ x y. x ∙ sym y
       | Some q ↦ λ x y. reads_once q (number + 1) (next ∷ lines) o p x y
     ]) h.2 moved

@@ -21,7 +21,7 @@ use Rattle.journal_text.specs.declared.line.Line.TheVariants as line
 use Rattle.journal_text.proofs.LineLaws.{line_back, line_graphic}
 use Rattle.journal_text.proofs.SplitFacts.{AreGraphic, IsGraphic}
 use Rattle.journal_text.specs.Openings.{AreCounted, IsOpened, row_of}
-use Rattle.journal_text.specs.Reading.{TextOutcome, Reads, TakesAt, TakesText, headed, is_full, opened, readable, unreadable, with_member, with_ticket}
+use Rattle.journal_text.specs.Reading.{TextOutcome, ReadsLines, TakesAt, TakesText, headed, is_full, opened, readable, unreadable, with_member, with_ticket}
 use Rattle.journal_text.specs.SegmentText.{balancer_values, beginning, entry_lines, lease_lines, member_line, member_lines, member_values, opening_lines}
 use Rattle.journal_text.specs.Written.{AllFit, CanFollow, CanStand, lines_of, texts_of}
 use Rattle.journal_text.specs.declared.counted.Counted.{Counted}
@@ -268,14 +268,14 @@ segment_run former done c h =
     )
 
 reads_step : (r m : Reader) (t : List ℕ) (ls : List (List ℕ)) (o : TextOutcome) (k : ℕ) → TakesText r t (Some m) → 0 < length ls
-    → Reads m (k + 1) ls o → Reads r k (t ∷ ls) o
+    → ReadsLines m (k + 1) ls o → ReadsLines r k (t ∷ ls) o
 reads_step r m t [] o k takes some reads = absurd (omega (arith, some))
 reads_step r m t (n ∷ ls) o k takes some reads = (Some m, takes, reads)
 
 reads_run : (ts : List (List ℕ)) (r q : Reader) (ls : List (List ℕ)) (o : TextOutcome) → 0 < length ls → Run r ts q
-    → ((k : ℕ) → Reads q k ls o) → (k : ℕ) → Reads r k (ts ++ ls) o
+    → ((k : ℕ) → ReadsLines q k ls o) → (k : ℕ) → ReadsLines r k (ts ++ ls) o
 unfolding Run
-reads_run [] r q ls o some h each k = subst (λ x. Reads x k ls o) (sym h) (each k)
+reads_run [] r q ls o some h each k = subst (λ x. ReadsLines x k ls o) (sym h) (each k)
 reads_run (t ∷ ts) r q ls o some h each k =
     reads_step r h.0 t (ts ++ ls) o k h.1 (omega (arith, some, length-append ts ls)) (reads_run ts h.0 q ls o some h.2 each (k + 1))
 
@@ -283,7 +283,7 @@ some_parts : (text : List ℕ) → 0 < length (parts_of 10 text)
 some_parts text = omega (arith, length-slice_split (λ b. b == 10) text)
 
 reads_all : (cs : List Counted) (former : ℕ) (done : List Counted) → CanFollow former cs → 0 < length (done ++ cs) → (k : ℕ)
-    → Reads (record { rules = former; place = place.Outside; done = done }) k (parts_of 10 (texts_of cs)) (readable (done ++ cs))
+    → ReadsLines (record { rules = former; place = place.Outside; done = done }) k (parts_of 10 (texts_of cs)) (readable (done ++ cs))
 reads_all [] former done h some k =
     ap readable (append-nil done) ∙ sym (cond-true (nat_lt 0 (length done)) (readable done) (unreadable k) (lt-ltb 0 (length done) (omega (arith, some, length-append done []))))
 reads_all (c ∷ cs) former done h some k =
@@ -291,15 +291,15 @@ reads_all (c ∷ cs) former done h some k =
     let lines = lines_of c in
     let next : Reader = record { rules = v; place = place.Outside; done = done ++ c ∷ [] } in
     let joint : (done ++ c ∷ []) ++ cs ≡ done ++ c ∷ cs = append_assoc done (c ∷ []) cs in
-    let later : (n : ℕ) → Reads next n (parts_of 10 (texts_of cs)) (readable (done ++ c ∷ cs)) =
-    λ n. subst (λ x. Reads next n (parts_of 10 (texts_of cs)) (readable x)) joint
+    let later : (n : ℕ) → ReadsLines next n (parts_of 10 (texts_of cs)) (readable (done ++ c ∷ cs)) =
+    λ n. subst (λ x. ReadsLines next n (parts_of 10 (texts_of cs)) (readable x)) joint
     (reads_all cs v (done ++ c ∷ []) h.1 (omega (arith, length-append (done ++ c ∷ []) cs, length-append done (c ∷ []))) n) in
     let cut = lines_cut v lines (texts_of cs) h.0.values in
-    subst (λ ps. Reads (record { rules = former; place = place.Outside; done = done }) k ps (readable (done ++ c ∷ cs))) (sym cut)
+    subst (λ ps. ReadsLines (record { rules = former; place = place.Outside; done = done }) k ps (readable (done ++ c ∷ cs))) (sym cut)
     (reads_run (texts v lines) (record { rules = former; place = place.Outside; done = done }) next (parts_of 10 (texts_of cs)) (readable (done ++ c ∷ cs))
     (some_parts (texts_of cs)) (segment_run former done c h.0) later k)
 
 -- segments that a text can hold are read from their texts
 pub written_back : (c : Counted) (cs : List Counted) → CanFollow 1 (c ∷ cs)
-    → Reads (record { rules = 1; place = place.Outside; done = [] }) 1 (parts_of 10 (texts_of (c ∷ cs))) (readable (c ∷ cs))
+    → ReadsLines (record { rules = 1; place = place.Outside; done = [] }) 1 (parts_of 10 (texts_of (c ∷ cs))) (readable (c ∷ cs))
 written_back c cs h = reads_all (c ∷ cs) 1 [] h (omega arith) 1

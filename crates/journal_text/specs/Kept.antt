@@ -8,7 +8,7 @@ use Rattle.journal_text.specs.declared.reader.TextPlace.TheVariants as place
 use Rattle.journal_text.specs.declared.reader.Reader.{Reader}
 
 -- it can be a segment
-pub record IsKept (c : Counted) : Type 0 where
+pub record IsKeptSegment (c : Counted) : Type 0 where
   pub versions : AreRules c.rules
   pub valid : IsOpening c.opening
   pub entries : AreKeptEntries c.rules c.entries
@@ -20,4 +20,4 @@ IsKeptAt rules other = Unit {0}
 pub record IsSound (r : Reader) : Type 0 where
   pub versions : AreRules r.rules
   pub present : IsKeptAt r.rules r.place
-  pub done : All IsKept r.done
+  pub done : All IsKeptSegment r.done

@@ -26,12 +26,12 @@ use Rattle.journal_text.specs.declared.line.MemberValues.{MemberValues}
 abbrev pub IsLong : ℕ → Type 0
 IsLong n = n < 2 ^ 64
 
-abbrev pub IsShort : ℕ → Type 0
-IsShort n = n < 2 ^ 32
+abbrev pub IsShortNumber : ℕ → Type 0
+IsShortNumber n = n < 2 ^ 32
 
 abbrev pub IsShortIfAny : Option ℕ → Type 0
 IsShortIfAny None = Unit {0}
-IsShortIfAny (Some n) = IsShort n
+IsShortIfAny (Some n) = IsShortNumber n
 
 abbrev pub AreBytes : List ℕ → Type 0
 AreBytes name = All (λ byte. byte < 256) name
@@ -54,7 +54,7 @@ pub record FitsAsk (rules : ℕ) (ask : Ask) : Type 0 where
 abbrev pub FitsRedirect : Redirect → Type 0
 FitsRedirect redirect.Keep = Unit {0}
 FitsRedirect redirect.None = Unit {0}
-FitsRedirect (redirect.To member) = IsShort member
+FitsRedirect (redirect.To member) = IsShortNumber member
 
 pub record FitsChange (change : Change) : Type 0 where
   pub factor : IsShortIfAny change.factor
@@ -62,9 +62,9 @@ pub record FitsChange (change : Change) : Type 0 where
   pub redirect : FitsRedirect change.redirect
 
 abbrev pub FitsCommand : Command → Type 0
-FitsCommand (command.Update member change) = IsShort member × FitsChange change
-FitsCommand (command.Reset member) = IsShort member
-FitsCommand (command.Recover member) = IsShort member
+FitsCommand (command.Update member change) = IsShortNumber member × FitsChange change
+FitsCommand (command.Reset member) = IsShortNumber member
+FitsCommand (command.Recover member) = IsShortNumber member
 
 abbrev pub FitsCall : (rules : ℕ) → Call → Type 0
 FitsCall rules (call.Select ask) = FitsAsk rules ask
@@ -74,14 +74,14 @@ FitsCall rules (call.Admin c) = FitsCommand c
 
 -- the ticket of a choice is the entry's number
 abbrev pub FitsAnswer : (seq : ℕ) → Answer → Type 0
-FitsAnswer seq (answer.Chosen member ticket how probe) = IsShort member × (ticket ≡ seq)
+FitsAnswer seq (answer.Chosen member ticket how probe) = IsShortNumber member × (ticket ≡ seq)
 FitsAnswer seq answer.NoMember = Unit {0}
 FitsAnswer seq answer.Forced = Unit {0}
 FitsAnswer seq answer.Done = Unit {0}
 
 pub record FitsEntry (rules : ℕ) (e : Entry) : Type 0 where
   pub seq : IsLong e.seq
-  pub session : IsShort e.session
+  pub session : IsShortNumber e.session
   pub at : IsLong e.at
   pub asked : FitsCall rules e.call
   pub answered : FitsAnswer e.seq e.answer
@@ -89,13 +89,13 @@ pub record FitsEntry (rules : ℕ) (e : Entry) : Type 0 where
 pub record FitsBalancer (b : BalancerValues) : Type 0 where
   pub maintain : IsLong b.maintain
   pub recover : IsLong b.recover
-  pub members : IsShort b.members
+  pub members : IsShortNumber b.members
 
 pub record FitsMember (m : MemberValues) : Type 0 where
-  pub factor : IsShort m.factor
-  pub distance : IsShort m.distance
+  pub factor : IsShortNumber m.factor
+  pub distance : IsShortNumber m.distance
   pub redirect : IsShortIfAny m.redirect
-  pub pool : IsShort m.pool
+  pub pool : IsShortNumber m.pool
   pub state : FitsState m.state
   pub load : m.load < 2 ^ 128
 
@@ -110,7 +110,7 @@ abbrev pub FitsLine : (rules : ℕ) → Line → Type 0
 FitsLine rules (line.Rules version) = (1 ≤ version) × (version ≤ 2)
 FitsLine rules (line.Balancer name values) = AreBytes name × FitsBalancer values
 FitsLine rules (line.Member name route values) = AreBytes name × AreBytes route × FitsMember values
-FitsLine rules (line.Lease ticket member) = IsLong ticket × IsShort member
+FitsLine rules (line.Lease ticket member) = IsLong ticket × IsShortNumber member
 FitsLine rules (line.From beginning) = FitsBeginning beginning
 FitsLine rules (line.Entry entry) = FitsEntry rules entry
 FitsLine rules (line.End count) = IsLong count

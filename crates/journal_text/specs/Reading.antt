@@ -95,9 +95,9 @@ abbrev pub TakesText : Reader → (text : List ℕ) → Option Reader → Type 0
 TakesText r text found = MatchOption (line_of r.rules text) (found ≡ None) (λ l. TakesAt r r.place l found)
 
 -- Why a line with this number isn't taken. Want of memory says nothing.
-abbrev pub Refuses : Reader → (number : ℕ) → (text : List ℕ) → TextError → Type 0
-Refuses r number text (error.Unreadable line) = (line ≡ number) × TakesText r text None
-Refuses r number text error.NoMemory = Unit {0}
+abbrev pub RefusesTextLine : Reader → (number : ℕ) → (text : List ℕ) → TextError → Type 0
+RefusesTextLine r number text (error.Unreadable line) = (line ≡ number) × TakesText r text None
+RefusesTextLine r number text error.NoMemory = Unit {0}
 
 -- A text is read as segments, each with the count of its last line, or can't be read at a line.
 pub data TextOutcome : Type 0 where
@@ -136,12 +136,12 @@ abbrev pub ended : Reader → (number : ℕ) → (last : List ℕ) → TextOutco
 ended r number last = if is_end r last then readable r.done else unreadable number
 
 -- How the lines are read from here on, the first of which has the number.
-abbrev pub Reads : Reader → (number : ℕ) → List (List ℕ) → TextOutcome → Type 0
-Reads r number [] outcome = ⊥
-Reads r number (last ∷ []) outcome = outcome ≡ ended r number last
-Reads r number (text ∷ next ∷ lines) outcome =
+abbrev pub ReadsLines : Reader → (number : ℕ) → List (List ℕ) → TextOutcome → Type 0
+ReadsLines r number [] outcome = ⊥
+ReadsLines r number (last ∷ []) outcome = outcome ≡ ended r number last
+ReadsLines r number (text ∷ next ∷ lines) outcome =
     (found : Option Reader) × TakesText r text found
-    × MatchOption found (outcome ≡ unreadable number) (λ q. Reads q (number + 1) (next ∷ lines) outcome)
+    × MatchOption found (outcome ≡ unreadable number) (λ q. ReadsLines q (number + 1) (next ∷ lines) outcome)
 
 -- Before the first line; the first segment may have either rules.
 abbrev pub at_start : Reader
@@ -149,10 +149,10 @@ at_start = record { rules = 1; place = place.Outside; done = [] }
 
 -- How a text is read.
 abbrev pub ReadsText : (text : List ℕ) → TextOutcome → Type 0
-ReadsText text outcome = Reads at_start 1 (parts_of 10 text) outcome
+ReadsText text outcome = ReadsLines at_start 1 (parts_of 10 text) outcome
 
 -- An answer says what the text is read as; want of memory says nothing.
-abbrev pub Tells : Result (List Counted) TextError → (TextOutcome → Type 0) → Type 0
-Tells (Ok done) Says = Says (readable done)
-Tells (Err (error.Unreadable line)) Says = Says (unreadable line)
-Tells (Err error.NoMemory) Says = Unit {0}
+abbrev pub TellsOutcome : Result (List Counted) TextError → (TextOutcome → Type 0) → Type 0
+TellsOutcome (Ok done) Says = Says (readable done)
+TellsOutcome (Err (error.Unreadable line)) Says = Says (unreadable line)
+TellsOutcome (Err error.NoMemory) Says = Unit {0}

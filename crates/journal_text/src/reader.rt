@@ -4,8 +4,8 @@ ghost use Rattle.lb_model.specs.Segments.{AreRules};
 ghost use Rattle.journal_text.specs.Ranges.{IsKeptLine};
 ghost use Rattle.lb_model.specs.Segments.{AreKeptEntries};
 ghost use Rattle.lb_model.specs.Validity.{IsOpening};
-ghost use Rattle.journal_text.specs.Kept.{IsKept, IsSound};
-ghost use Rattle.journal_text.specs.Reading.{Heads, Opens, Refuses, TakesAt, TakesOpening, TakesText, at_start, begun, continued, held, is_body, is_end, is_over, named, opened, with_member, with_ticket};
+ghost use Rattle.journal_text.specs.Kept.{IsKeptSegment, IsSound};
+ghost use Rattle.journal_text.specs.Reading.{Heads, Opens, RefusesTextLine, TakesAt, TakesOpening, TakesText, at_start, begun, continued, held, is_body, is_end, is_over, named, opened, with_member, with_ticket};
 
 use crate::counted::{Counted, CountedList};
 use crate::draft::OpeningDraft;
@@ -44,7 +44,7 @@ pub struct Reader {
 
 fn begun(rules: u8, done: CountedList, line: Line) -> Option<Reader>
     requires kept { IsKeptLine rules line }
-    requires sound { All IsKept done }
+    requires sound { All IsKeptSegment done }
     ensures sound { IfSome result IsSound }
     ensures takes { result ≡ begun (record { rules = rules; place = TextPlace.Outside; done = done }) line }
 {
@@ -60,7 +60,7 @@ fn begun(rules: u8, done: CountedList, line: Line) -> Option<Reader>
 
 fn named(alloc: Global, rules: u8, done: CountedList, line: Line) -> Option<Reader>
     requires versions { AreRules rules }
-    requires sound { All IsKept done }
+    requires sound { All IsKeptSegment done }
     ensures sound { IfSome result IsSound }
     ensures takes { result ≡ named (record { rules = rules; place = TextPlace.Ruled; done = done }) line }
 {
@@ -90,7 +90,7 @@ fn opened(
 ) -> Option<Reader>
     requires versions { AreRules rules }
     requires few { length draft.rows + length draft.out < 2 ^ 32 }
-    requires sound { All IsKept done }
+    requires sound { All IsKeptSegment done }
     ensures sound { IfSome result IsSound }
     ensures takes { Opens (record { rules = rules; place = TextPlace.Heading draft; done = done }) draft beginning.now result }
 {
@@ -119,7 +119,7 @@ fn with_member(
     values: MemberValues,
 ) -> Result<Option<Reader>, NoMemory>
     requires versions { AreRules rules }
-    requires sound { All IsKept done }
+    requires sound { All IsKeptSegment done }
     ensures sound { IfOk result (λ found. IfSome found IsSound) }
     ensures value { IfOk result (λ found. found ≡ Some (record { rules = rules; place = TextPlace.Heading (with_member draft name route values); done = done })) }
     ensures grown { IfOk result (λ found. IfSome found (λ q. held q.place ≤ length draft.rows + length draft.out + 1)) }
@@ -141,7 +141,7 @@ fn with_ticket(
     member: u32,
 ) -> Result<Option<Reader>, NoMemory>
     requires versions { AreRules rules }
-    requires sound { All IsKept done }
+    requires sound { All IsKeptSegment done }
     ensures sound { IfOk result (λ found. IfSome found IsSound) }
     ensures value { IfOk result (λ found. found ≡ Some (record { rules = rules; place = TextPlace.Heading (with_ticket draft ticket member); done = done })) }
     ensures grown { IfOk result (λ found. IfSome found (λ q. held q.place ≤ length draft.rows + length draft.out + 1)) }
@@ -163,7 +163,7 @@ fn headed(
 ) -> Result<Option<Reader>, NoMemory>
     requires versions { AreRules rules }
     requires few { length draft.rows + length draft.out < 2 ^ 32 }
-    requires sound { All IsKept done }
+    requires sound { All IsKeptSegment done }
     ensures sound { IfOk result (λ found. IfSome found IsSound) }
     ensures takes { IfOk result (Heads (record { rules = rules; place = TextPlace.Heading draft; done = done }) draft line) }
     ensures grown { IfOk result (λ found. IfSome found (λ q. held q.place ≤ length draft.rows + length draft.out + 1)) }
@@ -194,7 +194,7 @@ fn with_entry(
     requires valid { IsOpening opening }
     requires entries { AreKeptEntries rules entries }
     requires kept { IsKeptLine rules (Line.Entry entry) }
-    requires sound { All IsKept done }
+    requires sound { All IsKeptSegment done }
     ensures sound { IfOk result (λ found. IfSome found IsSound) }
     ensures value { IfOk result (λ found. found
         ≡ Some (record { rules = rules; place = TextPlace.Body name opening (entries ++ entry ∷ []); done = done })) }
@@ -213,8 +213,8 @@ fn with_entry(
 // After a further segment.
 fn with_segment(rules: u8, done: CountedList, segment: Counted) -> Result<Option<Reader>, NoMemory>
     requires versions { AreRules rules }
-    requires kept { IsKept segment }
-    requires sound { All IsKept done }
+    requires kept { IsKeptSegment segment }
+    requires sound { All IsKeptSegment done }
     ensures sound { IfOk result (λ found. IfSome found IsSound) }
     ensures value { IfOk result (λ found. found ≡ Some (record { rules = rules; place = TextPlace.Outside; done = done ++ segment ∷ [] })) }
     ensures grown { IfOk result (λ found. IfSome found (λ q. held q.place ≡ 0)) }
@@ -240,7 +240,7 @@ fn continued(
     requires valid { IsOpening opening }
     requires entries { AreKeptEntries rules entries }
     requires kept { IsKeptLine rules line }
-    requires sound { All IsKept done }
+    requires sound { All IsKeptSegment done }
     ensures sound { IfOk result (λ found. IfSome found IsSound) }
     ensures takes { IfOk result (λ found. found
         ≡ continued (record { rules = rules; place = TextPlace.Body name opening entries; done = done }) name opening entries line) }
@@ -356,7 +356,7 @@ impl Reader {
         ensures sound { IfOk result IsSound }
         ensures takes { IfOk result (λ q. TakesText self text.now (Some q)) }
         ensures grown { IfOk result (λ q. held q.place ≤ held self.place + 1) }
-        ensures err { IfErr result (Refuses self number text.now) }
+        ensures err { IfErr result (RefusesTextLine self number text.now) }
     {
         match self.take_text(alloc, text)? {
             Some(further) => Ok(further),
@@ -367,7 +367,7 @@ impl Reader {
     /// The segments that were read, where a text may end here; `last` is what stands after its last LF.
     pub(crate) fn end(self, last: &[u8]) -> Option<CountedList>
         requires sound { IsSound self }
-        ensures sound { IfSome result (All IsKept) }
+        ensures sound { IfSome result (All IsKeptSegment) }
         ensures value { MatchOption result (is_end self last.now ≡ false) (λ done. (is_end self last.now ≡ true) × (done ≡ self.done)) }
     {
         if self.is_over(last) && !self.done.is_empty() {
@@ -388,7 +388,7 @@ impl Reader {
         requires sound { IsSound self.old }
         ensures none { IfNone result ((self.old.done ≡ []) × (self.new.done ≡ [])) }
         ensures some { IfSome result (λ c. self.old.done ≡ self.new.done ++ c ∷ []) }
-        ensures kept { IfSome result IsKept }
+        ensures kept { IfSome result IsKeptSegment }
         ensures same { (self.new.rules ≡ self.old.rules) × (self.new.place ≡ self.old.place) }
         ensures sound { IsSound self.new }
     {

@@ -1,6 +1,6 @@
 //! The segments of a text.
 ghost use Rattle.std.specs.Prelude.{◌≡◌, ◌≤◌, All, length, reverse, IfOk};
-ghost use Rattle.journal_text.specs.Kept.{IsKept};
+ghost use Rattle.journal_text.specs.Kept.{IsKeptSegment};
 ghost use Rattle.journal_text.specs.Pairs.{ArePairsOf, IsPairOf, IsReadAs};
 ghost use Rattle.jk_io.specs.declared.whole_input.TheConstants.{MAX_INPUT_BYTES};
 
@@ -12,7 +12,7 @@ use lb_model::Segment;
 use std::alloc::Global;
 
 fn segment_of(counted: Counted) -> (Bytes, Segment)
-    requires { IsKept counted }
+    requires { IsKeptSegment counted }
     ensures { IsPairOf counted result }
 {
     let Counted {
@@ -32,7 +32,7 @@ fn segment_of(counted: Counted) -> (Bytes, Segment)
 
 // The last one first.
 fn segments_of(alloc: Global, counted: CountedList) -> Result<Vec<(Bytes, Segment)>, NoMemory>
-    requires { All IsKept counted }
+    requires { All IsKeptSegment counted }
     ensures { IfOk result (λ pairs. ArePairsOf counted (reverse pairs.items)) }
 {
     let mut counted = counted;

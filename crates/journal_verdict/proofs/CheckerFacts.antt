@@ -9,7 +9,7 @@ use Rattle.lb_model.specs.declared.opening.Opening.{Opening}
 use Rattle.play_script.specs.Parts.{parts_of}
 use Rattle.journal_text.specs.declared.line.Line.TheVariants as line
 use Rattle.journal_text.specs.Kept.{IsSound}
-use Rattle.journal_text.specs.Reading.{TextOutcome, Reads, ReadsText, TakesText, at_start, held, is_end, is_outside, readable, unreadable}
+use Rattle.journal_text.specs.Reading.{TextOutcome, ReadsLines, ReadsText, TakesText, at_start, held, is_end, is_outside, readable, unreadable}
 use Rattle.journal_text.specs.SegmentText.{entry_lines, opening_lines}
 use Rattle.journal_text.specs.Written.{lines_of}
 use Rattle.journal_text.specs.declared.counted.Counted.{Counted}
@@ -18,8 +18,8 @@ use Rattle.journal_text.specs.declared.reader.TextPlace.TheVariants as place
 use Rattle.journal_text.specs.declared.reader.Reader.{Reader}
 use Rattle.journal_text.specs.declared.text_error.TextError.{TextError}
 use Rattle.journal_text.specs.declared.text_error.TextError.TheVariants as error
-use Rattle.journal_verdict.specs.Checkers.{Advances, EndsBy, GoesOn, HasTaken, Judged, RefusesLine, may_end}
-use Rattle.journal_verdict.specs.Checks.{After, Comes, HasRoom, IsBad, Leads, front, lines_taken, verdict_of}
+use Rattle.journal_verdict.specs.Checkers.{Advances, CheckEndsBy, CheckGoesOn, HasTaken, Judged, RefusesLine, may_end}
+use Rattle.journal_verdict.specs.Checks.{After, Comes, HasCountRoom, AreBadSegments, Leads, front, lines_taken, verdict_of}
 use Rattle.journal_verdict.specs.Verdicts.{AreRight, Former, IsChecked, IsRight, IsVerdict, entries_in, lines_in}
 use Rattle.journal_verdict.specs.declared.checker.Checker.{Checker}
 use Rattle.journal_verdict.specs.declared.ruling.Verdict.{Verdict}
@@ -65,7 +65,7 @@ right_more first last [] c ending all right ends = (ending, subst (λ f. IsRight
 right_more first last (d ∷ cs) c ending all right ends =
     (all.0, all.1, all.2, right_more (Some (d.name, all.0)) last cs c ending all.3 right ends)
 
-bad_more : (cs : List Counted) (c : Counted) (v : Verdict) → IsBad cs v → IsBad (cs ++ c ∷ []) v
+bad_more : (cs : List Counted) (c : Counted) (v : Verdict) → AreBadSegments cs v → AreBadSegments (cs ++ c ∷ []) v
 bad_more cs c (verdict.Good entries) bad = bad
 bad_more cs c (verdict.Bad line kept ruled) bad = record {
   before = bad.before;
@@ -88,7 +88,7 @@ comes_after cs c old (check.Good q) comes after =
       ap (λ r. r.entries) after.4 ∙ omega (arith, entries_more cs c, comes.3),
     )
 comes_after cs c old (check.Bad v) comes after =
-    subst (λ x. IsBad (cs ++ c ∷ []) x) (sym after.4) (record {
+    subst (λ x. AreBadSegments (cs ++ c ∷ []) x) (sym after.4) (record {
       before = cs;
       segment = c;
       later = [];
@@ -121,10 +121,10 @@ ended_lines r q text c empty ended takes =
     ]
 
 pub has_room : (old : Checker) (done : List Counted) (text : List ℕ) (q : Reader) (c : Counted) → HasTaken old done → old.number ≤ 67108866
-    → TakesText old.reader text (Some q) → q.done ≡ c ∷ [] → HasRoom old.check c
+    → TakesText old.reader text (Some q) → q.done ≡ c ∷ [] → HasCountRoom old.check c
 has_room old done text q c taken few takes ended =
     let lines = ended_lines old.reader q text c taken.empty ended takes in
-    (elim old.check as (λ k. Comes done k → HasRoom k c) [
+    (elim old.check as (λ k. Comes done k → HasCountRoom k c) [
       | check.Good g ↦ λ comes. (
         comes.1,
         omega (arith, taken.number, few, lines.1, comes.2),
@@ -210,7 +210,7 @@ advances_by old done text q new (c ∷ d ∷ cs) taken takes sound rules place n
 
 -- the segments that were taken, and the lines of another one, go on by a line
 pub advances : (old : Checker) (text : List ℕ) (q : Reader) (new : Checker) → TakesText old.reader text (Some q)
-    → GoesOn q old.check old.some (old.number + 1) new → Advances old text new
+    → CheckGoesOn q old.check old.some (old.number + 1) new → Advances old text new
 advances old text q new takes on =
     λ done taken. advances_by old done text q new q.done taken takes on.sound on.versions on.stands on.counted refl on.judged
 
@@ -257,7 +257,7 @@ abbrev pub checker_so : Reader → Check → Bool → (number : ℕ) → Checker
 checker_so r k some number = record { reader = r; check = k; some = some; number = number }
 
 pub goes_on_none : (r q : Reader) (k : Check) (some : Bool) (number : ℕ) → IsSound q → (q.rules ≡ r.rules) × (q.place ≡ r.place)
-    → (r.done ≡ []) × (q.done ≡ []) → GoesOn r k some number (checker_so q k some number)
+    → (r.done ≡ []) × (q.done ≡ []) → CheckGoesOn r k some number (checker_so q k some number)
 goes_on_none r q k some number sound same none = record {
   sound = sound;
   versions = same.0;
@@ -268,7 +268,7 @@ goes_on_none r q k some number sound same none = record {
 
 pub goes_on_some : (r q : Reader) (c : Counted) (k after : Check) (some : Bool) (number : ℕ) → IsSound q → (q.rules ≡ r.rules) × (q.place ≡ r.place)
     → r.done ≡ q.done ++ c ∷ [] → length r.done ≤ 1 → Leads k c after
-    → GoesOn r k some number (checker_so q after true number)
+    → CheckGoesOn r k some number (checker_so q after true number)
 goes_on_some r q c k after some number sound same is few leads = record {
   sound = sound;
   versions = same.0;
@@ -304,11 +304,11 @@ end_is c done last taken =
     ∙ and_last (length last == 0) (is_outside c.reader.place) c.some
 
 pub ends_good : (c : Checker) (done : List Counted) (last : List ℕ) (v : Verdict) → HasTaken c done → may_end c last ≡ true → v ≡ verdict_of c.check
-    → EndsBy done c last (Ok v)
+    → CheckEndsBy done c last (Ok v)
 ends_good c done last v taken may is = (end_is c done last taken ∙ may, subst (λ x. IsVerdict done x) (sym is) (verdict_on c done taken))
 
 pub ends_unread : (c : Checker) (done : List Counted) (last : List ℕ) → HasTaken c done → may_end c last ≡ false
-    → EndsBy done c last (Err (error.Unreadable c.number))
+    → CheckEndsBy done c last (Err (error.Unreadable c.number))
 ends_unread c done last taken may = (refl, end_is c done last taken ∙ may)
 
 -- ---- a text, line by line
@@ -317,7 +317,7 @@ ends_unread c done last taken may = (refl, end_is c done last taken ∙ may)
 pub record Stands (whole : List ℕ) (c : Checker) (lines : List (List ℕ)) : Type 0 where
   pub done : List Counted
   pub taken : HasTaken c done
-  pub reads : (o : TextOutcome) → Reads (front done c.reader) c.number lines o → ReadsText whole o
+  pub reads : (o : TextOutcome) → ReadsLines (front done c.reader) c.number lines o → ReadsText whole o
 
 pub stands_first : (whole first : List ℕ) (c : Checker) (lines : List (List ℕ)) → HasTaken c [] → c.reader ≡ at_start → c.number ≡ 1
     → parts_of 10 whole ≡ first ∷ lines → Stands whole c (first ∷ lines)
@@ -325,9 +325,9 @@ stands_first whole first c lines taken start number parts = record {
   done = [];
   taken = taken;
   reads = λ o h.
-      subst (λ ps. Reads at_start 1 ps o) (sym parts)
-      (subst (λ n. Reads at_start n (first ∷ lines) o) number
-      (subst (λ (r : Reader). Reads r c.number (first ∷ lines) o) (ap (front []) start) h));
+      subst (λ ps. ReadsLines at_start 1 ps o) (sym parts)
+      (subst (λ n. ReadsLines at_start n (first ∷ lines) o) number
+      (subst (λ (r : Reader). ReadsLines r c.number (first ∷ lines) o) (ap (front []) start) h));
 }
 
 pub stands_on : (whole : List ℕ) (old new : Checker) (line next : List ℕ) (lines : List (List ℕ)) → Stands whole old (line ∷ next ∷ lines)
@@ -338,7 +338,7 @@ stands_on whole old new line next lines stands on number =
       done = now.0;
       taken = now.1;
       reads = λ o h.
-          stands.reads o (Some (front now.0 new.reader), now.2, subst (λ n. Reads (front now.0 new.reader) n (next ∷ lines) o) number h);
+          stands.reads o (Some (front now.0 new.reader), now.2, subst (λ n. ReadsLines (front now.0 new.reader) n (next ∷ lines) o) number h);
     }
 
 -- a line that isn't taken is where the text can't be read
@@ -355,7 +355,7 @@ stands_refused whole c line next lines e (Err x) stands is told =
     subst (λ (y : TextError). IsChecked whole (Err y)) (sym told) (refused whole c line next lines e stands is)
 
 pub stands_end : (whole : List ℕ) (c : Checker) (last : List ℕ) (r : Result Verdict TextError) → Stands whole c (last ∷ [])
-    → ((done : List Counted) → HasTaken c done → EndsBy done c last r) → IsChecked whole r
+    → ((done : List Counted) → HasTaken c done → CheckEndsBy done c last r) → IsChecked whole r
 stands_end whole c last (Ok v) stands ends =
     let end = ends stands.done stands.taken in
     let all : stands.done ++ c.reader.done ≡ stands.done = ap (λ (d : List Counted). stands.done ++ d) stands.taken.empty ∙ append-nil stands.done in

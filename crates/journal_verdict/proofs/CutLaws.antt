@@ -4,9 +4,9 @@ use Rattle.std.specs.List.{All, flat_map}
 use Rattle.std.proofs.lemmas.Grind.{flat_map-append}
 use Rattle.std.proofs.lemmas.List.{append-nil, take-append-drop, take_more}
 use Rattle.std.proofs.lemmas.List.Elements.{All-append, All-cons, All-nil}
-use Rattle.journal_verdict.specs.Followed.{FollowsTo, HasNoEnd, IsCut, IsStopped, StopsAt, ended}
-use Rattle.journal_verdict.specs.Lines.{Refuses, Stand, Takes, at_first}
-use Rattle.journal_verdict.specs.Machines.{IsAt, Knows}
+use Rattle.journal_verdict.specs.Followed.{FollowsTo, HasNoEnd, IsCutIntoLines, IsStoppedText, StopsAt, ended}
+use Rattle.journal_verdict.specs.Lines.{RefusesLineAt, Stand, StandTakes, at_first}
+use Rattle.journal_verdict.specs.Machines.{KnowsAs, Knows}
 use Rattle.journal_verdict.specs.declared.error.FollowError.{FollowError}
 use Rattle.journal_verdict.specs.declared.error.FollowError.TheVariants as wrong
 use Rattle.journal_verdict.specs.declared.known.Known.TheVariants as known
@@ -16,7 +16,7 @@ one_all : {T : Type 0} (P : T → Type 0) (x : T) → P x → All P (x ∷ [])
 one_all P x h = All-cons P x [] h (All-nil P)
 
 -- a byte that ends no line
-pub byte_more : (bytes : List ℕ) (lines : List (List ℕ)) (part : List ℕ) (b : ℕ) → b ≢ 10 → IsCut bytes lines part → IsCut (bytes ++ b ∷ []) lines (part ++ b ∷ [])
+pub byte_more : (bytes : List ℕ) (lines : List (List ℕ)) (part : List ℕ) (b : ℕ) → b ≢ 10 → IsCutIntoLines bytes lines part → IsCutIntoLines (bytes ++ b ∷ []) lines (part ++ b ∷ [])
 byte_more bytes lines part b other cut = record {
   whole = ap (λ (x : List ℕ). x ++ b ∷ []) cut.whole ∙ append_assoc (flat_map ended lines) part (b ∷ []);
   single = cut.single;
@@ -24,7 +24,7 @@ byte_more bytes lines part b other cut = record {
 }
 
 -- a line ends
-pub line_more : (bytes : List ℕ) (lines : List (List ℕ)) (part : List ℕ) → IsCut bytes lines part → IsCut (bytes ++ 10 ∷ []) (lines ++ part ∷ []) []
+pub line_more : (bytes : List ℕ) (lines : List (List ℕ)) (part : List ℕ) → IsCutIntoLines bytes lines part → IsCutIntoLines (bytes ++ 10 ∷ []) (lines ++ part ∷ []) []
 line_more bytes lines part cut = record {
   whole = ap (λ (x : List ℕ). x ++ 10 ∷ []) cut.whole ∙ (append_assoc (flat_map ended lines) part (10 ∷ [])
       ∙ (ap (λ (x : List ℕ). flat_map ended lines ++ x) (sym (append-nil (ended part)))
@@ -33,11 +33,11 @@ line_more bytes lines part cut = record {
   rest = All-nil (λ byte. byte ≢ 10);
 }
 
-pub follows_more : (s : Stand) (lines : List (List ℕ)) (m t : Stand) (text : List ℕ) → FollowsTo s lines m → Takes m text t → FollowsTo s (lines ++ text ∷ []) t
-follows_more s [] m t text is h = (t, subst (λ (x : Stand). Takes x text t) is h, refl)
+pub follows_more : (s : Stand) (lines : List (List ℕ)) (m t : Stand) (text : List ℕ) → FollowsTo s lines m → StandTakes m text t → FollowsTo s (lines ++ text ∷ []) t
+follows_more s [] m t text is h = (t, subst (λ (x : Stand). StandTakes x text t) is h, refl)
 follows_more s (l ∷ lines) m t text f h = (f.0, f.1, follows_more f.0 lines m t text f.2 h)
 
-stopped_by : (bytes : List ℕ) (e : FollowError) → StopsAt bytes e → IsStopped bytes e
+stopped_by : (bytes : List ℕ) (e : FollowError) → StopsAt bytes e → IsStoppedText bytes e
 stopped_by bytes (wrong.Unreadable line) h = h
 stopped_by bytes (wrong.Bad line kept ruled) h = h
 stopped_by bytes wrong.NoMemory h = tt
@@ -63,7 +63,7 @@ knows_byte m number part bytes b other k = (k.0, byte_more bytes k.0 part b othe
 
 -- a line was taken
 pub knows_line : (m n : Machine) (number next : ℕ) (part bytes : List ℕ) → next ≡ number + 1 → Knows (known.Going m number) part bytes
-    → ((s : Stand) → IsAt m s → (t : Stand) × Takes s part t × IsAt n t) → Knows (known.Going n next) [] (bytes ++ 10 ∷ [])
+    → ((s : Stand) → KnowsAs m s → (t : Stand) × StandTakes s part t × KnowsAs n t) → Knows (known.Going n next) [] (bytes ++ 10 ∷ [])
 knows_line m n number next part bytes more k takes =
     let t = takes k.2 k.4 in (
       k.0 ++ part ∷ [],
@@ -76,7 +76,7 @@ knows_line m n number next part bytes more k takes =
 
 -- a line was refused, whatever comes after it
 pub knows_stop : (m : Machine) (number : ℕ) (part bytes later : List ℕ) (e : FollowError) → Knows (known.Going m number) part bytes
-    → ((s : Stand) → IsAt m s → Refuses s number part e) → IsStopped (bytes ++ 10 ∷ later) e
+    → ((s : Stand) → KnowsAs m s → RefusesLineAt s number part e) → IsStoppedText (bytes ++ 10 ∷ later) e
 knows_stop m number part bytes later e k refuses =
     stopped_by (bytes ++ 10 ∷ later) e (record {
       before = k.0;
@@ -88,11 +88,11 @@ knows_stop m number part bytes later e k refuses =
       one = k.1.rest;
       stand = k.2;
       takes = k.3;
-      refuses = subst (λ (n : ℕ). Refuses k.2 n part e) k.5 (refuses k.2 k.4);
+      refuses = subst (λ (n : ℕ). RefusesLineAt k.2 n part e) k.5 (refuses k.2 k.4);
     })
 
 -- what was said of a refusal stands, whatever comes after it
-pub stopped_more : (bytes later : List ℕ) (e : FollowError) → IsStopped bytes e → IsStopped (bytes ++ later) e
+pub stopped_more : (bytes later : List ℕ) (e : FollowError) → IsStoppedText bytes e → IsStoppedText (bytes ++ later) e
 stopped_more bytes later (wrong.Unreadable line) h = stops_more bytes later (wrong.Unreadable line) h
 stopped_more bytes later (wrong.Bad line kept ruled) h = stops_more bytes later (wrong.Bad line kept ruled) h
 stopped_more bytes later wrong.NoMemory h = tt

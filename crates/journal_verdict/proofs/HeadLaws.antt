@@ -14,8 +14,8 @@ use Rattle.journal_text.specs.declared.reader.TextPlace.TheVariants as place
 use Rattle.journal_verdict.specs.Checks.{lines_taken}
 use Rattle.journal_verdict.specs.Verdicts.{opening_texts}
 use Rattle.journal_verdict.specs.declared.ruling.Ruling.TheVariants as ruling
-use Rattle.journal_verdict.specs.Lines.{Agrees, IsBad, IsExpected, Refuses, RunState, Stand, Takes, TakesHead, TakesLine, headed}
-use Rattle.journal_verdict.specs.Machines.{AddsHead, Fits, HasRun, IsAt, IsRun, Misfits, expected_at}
+use Rattle.journal_verdict.specs.Lines.{Agrees, IsBadLine, IsExpected, RefusesLineAt, RunState, Stand, StandTakes, TakesHead, TakesLine, headed}
+use Rattle.journal_verdict.specs.Machines.{AddsHead, FitsOpening, HasRunState, KnowsAs, IsRunSoFar, Misfits, expected_at}
 use Rattle.journal_verdict.specs.declared.error.FollowError.{FollowError}
 use Rattle.journal_verdict.specs.declared.error.FollowError.TheVariants as wrong
 use Rattle.journal_verdict.specs.declared.machine.Machine.{Machine}
@@ -79,7 +79,7 @@ head_more : (r q : Reader) (text : List ℕ) → TakesText r text (Some q) → i
 head_more r q text h shut = by_line r q (line_of r.rules text) h shut
 
 -- what ought to stand there is what the run ended with
-expects : (r : Run) (run : RunState) (taken at : ℕ) (text : List ℕ) → IsRun false r run → taken ≡ at → ((v : ℕ) → text ≡ expected_at v r (taken - 1)) → IsExpected run (at - 1) text
+expects : (r : Run) (run : RunState) (taken at : ℕ) (text : List ℕ) → IsRunSoFar false r run → taken ≡ at → ((v : ℕ) → text ≡ expected_at v r (taken - 1)) → IsExpected run (at - 1) text
 expects r run taken at text is same eq = record {
   ending = r.book.opening;
   ends = is.stands.ending;
@@ -87,8 +87,8 @@ expects r run taken at text is same eq = record {
       ∙ ap (λ (n : ℕ). slice_index_or (opening_texts run.rules run.name r.book.opening) (n - 1) []) same);
 }
 
-agrees_by : (found : Option Run) (state : Option RunState) (p : TextPlace) (taken : ℕ) (text : List ℕ) → HasRun false found state → taken ≡ lines_taken p
-    → is_body p ≡ false → Fits found taken text → Agrees state p text
+agrees_by : (found : Option Run) (state : Option RunState) (p : TextPlace) (taken : ℕ) (text : List ℕ) → HasRunState false found state → taken ≡ lines_taken p
+    → is_body p ≡ false → FitsOpening found taken text → Agrees state p text
 agrees_by None None p taken text has same shut fits = tt
 agrees_by None (Some run) p taken text has same shut fits = absurd has
 agrees_by (Some r) None p taken text has same shut fits = absurd has
@@ -103,30 +103,30 @@ takes_shut : (among : Bool) (state : Option RunState) (s : Stand) (text : List �
 takes_shut false state s text t shut h = h
 takes_shut true state s text t shut h = absurd (let wrong : true ≡ false = shut in cc)
 
-bad_shut : (among : Bool) (state : Option RunState) (s : Stand) (text : List ℕ) (kept ruled : _) → among ≡ false → IsBad false state s text kept ruled → IsBad among state s text kept ruled
+bad_shut : (among : Bool) (state : Option RunState) (s : Stand) (text : List ℕ) (kept ruled : _) → among ≡ false → IsBadLine false state s text kept ruled → IsBadLine among state s text kept ruled
 bad_shut false state s text kept ruled shut h = h
 bad_shut true state s text kept ruled shut h = absurd (let wrong : true ≡ false = shut in cc)
 
 -- the line is taken
-pub goes_on : (m : Machine) (s : Stand) (text : List ℕ) (read : Reader) (n : Machine) → IsAt m s → m.among ≡ false → TakesText m.reader text (Some read)
-    → Fits m.run m.taken text → AddsHead s read (m.taken + 1) m.run n → (t : Stand) × Takes s text t × IsAt n t
+pub goes_on : (m : Machine) (s : Stand) (text : List ℕ) (read : Reader) (n : Machine) → KnowsAs m s → m.among ≡ false → TakesText m.reader text (Some read)
+    → FitsOpening m.run m.taken text → AddsHead s read (m.taken + 1) m.run n → (t : Stand) × StandTakes s text t × KnowsAs n t
 goes_on m s text read n at shut takes fits adds =
     let shut' : s.among ≡ false = sym at.among ∙ shut in
     let takes' = subst (λ (r : Reader). TakesText r text (Some read)) at.reader takes in
     let more = head_more s.reader read text takes' at.outside in
-    let has = subst (λ (b : Bool). HasRun b m.run s.run) shut' at.run in
+    let has = subst (λ (b : Bool). HasRunState b m.run s.run) shut' at.run in
     let agrees = agrees_by m.run s.run s.reader.place m.taken text has at.taken at.outside fits in (
       headed s read.rules read.place read,
       takes_shut s.among s.run s text _ shut' (record { read = read; takes = takes'; agrees = agrees; stands = refl }),
       adds (more.same ∙ at.empty) (λ shut''. omega (arith, more.more shut'', at.taken)) has,
     )
 
-differs_by : (found : Option Run) (s : Stand) (taken : ℕ) (text ruled : List ℕ) (read : Reader) → HasRun false found s.run → taken ≡ lines_taken s.reader.place
-    → TakesText s.reader text (Some read) → Misfits found taken text ruled → IsBad false s.run s text (ruling.Line text) (ruling.Line ruled)
+differs_by : (found : Option Run) (s : Stand) (taken : ℕ) (text ruled : List ℕ) (read : Reader) → HasRunState false found s.run → taken ≡ lines_taken s.reader.place
+    → TakesText s.reader text (Some read) → Misfits found taken text ruled → IsBadLine false s.run s text (ruling.Line text) (ruling.Line ruled)
 differs_by found s taken text ruled read has same takes misfits = by found s.run refl has misfits
   where
-    by : (found : Option Run) (state : Option RunState) → s.run ≡ state → HasRun false found state → Misfits found taken text ruled
-        → IsBad false s.run s text (ruling.Line text) (ruling.Line ruled)
+    by : (found : Option Run) (state : Option RunState) → s.run ≡ state → HasRunState false found state → Misfits found taken text ruled
+        → IsBadLine false s.run s text (ruling.Line text) (ruling.Line ruled)
     by None state known has misfits = absurd misfits
     by (Some r) None known has misfits = absurd has
     by (Some r) (Some run) known has misfits = record {
@@ -143,19 +143,19 @@ differs_by found s taken text ruled read has same takes misfits = by found s.run
     }
 
 -- the line isn't what it ought to be
-pub goes_wrong : (m : Machine) (s : Stand) (text ruled : List ℕ) (read : Reader) (number : ℕ) (e : FollowError) → IsAt m s → m.among ≡ false
-    → TakesText m.reader text (Some read) → Misfits m.run m.taken text ruled → e ≡ wrong.Bad number (ruling.Line text) (ruling.Line ruled) → Refuses s number text e
+pub goes_wrong : (m : Machine) (s : Stand) (text ruled : List ℕ) (read : Reader) (number : ℕ) (e : FollowError) → KnowsAs m s → m.among ≡ false
+    → TakesText m.reader text (Some read) → Misfits m.run m.taken text ruled → e ≡ wrong.Bad number (ruling.Line text) (ruling.Line ruled) → RefusesLineAt s number text e
 goes_wrong m s text ruled read number e at shut takes misfits is =
     let shut' : s.among ≡ false = sym at.among ∙ shut in
     let takes' = subst (λ (r : Reader). TakesText r text (Some read)) at.reader takes in
-    let has = subst (λ (b : Bool). HasRun b m.run s.run) shut' at.run in
+    let has = subst (λ (b : Bool). HasRunState b m.run s.run) shut' at.run in
     rw is (refl, bad_shut s.among s.run s text _ _ shut' (differs_by m.run s m.taken text ruled read has at.taken takes' misfits))
 
 -- no opening is whole yet
 pub stays : (s : Stand) (read : Reader) (m : Machine) → IsSound read → is_body read.place ≡ false → m.reader ≡ read → m.among ≡ false → AddsHead s read m.taken m.run m
 stays s read m sound shut same closed empty taken has = by read.place refl
   where
-    at : IsAt m (record { reader = read; run = s.run; among = false })
+    at : KnowsAs m (record { reader = read; run = s.run; among = false })
     at = record {
       reader = same;
       sound = sound;
@@ -167,7 +167,7 @@ stays s read m sound shut same closed empty taken has = by read.place refl
       rules = λ run there known. absurd (let wrong : false ≡ true = there in cc);
     }
 
-    by : (p : TextPlace) → read.place ≡ p → IsAt m (headed s read.rules p read)
+    by : (p : TextPlace) → read.place ≡ p → KnowsAs m (headed s read.rules p read)
     by place.Outside is = at
     by place.Ruled is = at
     by (place.Heading d) is = at

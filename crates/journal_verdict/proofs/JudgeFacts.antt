@@ -11,8 +11,8 @@ use Rattle.lb_model.specs.declared.journal.Answer.{Answer}
 use Rattle.lb_model.specs.declared.journal.Call.{Call}
 use Rattle.lb_model.specs.declared.journal.Entry.{Entry}
 use Rattle.lb_model.specs.declared.opening.Opening.{Opening}
-use Rattle.journal_verdict.specs.Judging.{Follows, GoesOn, IsInTurn, JudgesEntries, RulesOn}
-use Rattle.journal_verdict.specs.Rulings.{Differs, IsFirstWrong, Refuses, RulesAfter}
+use Rattle.journal_verdict.specs.Judging.{FollowsEntry, BookGoesOn, IsInTurn, JudgesEntries, RulesOn}
+use Rattle.journal_verdict.specs.Rulings.{Differs, IsFirstWrong, HasNoLegalAnswer, RulesAfter}
 use Rattle.journal_verdict.specs.declared.ruling.Ruling.{Ruling}
 use Rattle.journal_verdict.specs.declared.ruling.Ruling.TheVariants as ruling
 
@@ -45,8 +45,8 @@ ruled_answer old new e x asked is turn adds next =
 
 -- why a call has no answer is why its entry has none
 pub refused_so : (b : Journal) (e : Entry) (asked : Call) (ruled : Ruling) → e.call ≡ asked
-    → Refuses b.opening (past_of b) e asked ruled → Refuses b.opening (past_of b) e e.call ruled
-refused_so b e asked ruled is refused = subst (λ c. Refuses b.opening (past_of b) e c ruled) (sym is) refused
+    → HasNoLegalAnswer b.opening (past_of b) e asked ruled → HasNoLegalAnswer b.opening (past_of b) e e.call ruled
+refused_so b e asked ruled is refused = subst (λ c. HasNoLegalAnswer b.opening (past_of b) e c ruled) (sym is) refused
 
 -- the rule alone, without what became of the Book
 pub rules_of : (e : Entry) (old new : Journal) (ruled : Ruling) → RulesOn e old new ruled → RulesAfter old.rules old.opening (past_of old) e ruled
@@ -61,9 +61,9 @@ rules_of e old new (ruling.Refused n) h = h
 rules_of e old new ruling.Full h = h
 
 -- an entry with the answer that is ruled follows
-pub follows : (e : Entry) (old new : Journal) (a : Answer) → a ≡ e.answer → RulesOn e old new (ruling.Answer a) → Follows e old new None
+pub follows : (e : Entry) (old new : Journal) (a : Answer) → a ≡ e.answer → RulesOn e old new (ruling.Answer a) → FollowsEntry e old new None
 follows e old new a same h =
-    subst (λ (x : Answer). IsNext old.rules old.opening (past_of old) (record e { answer = x }) × GoesOn old new (record e { answer = x })) same h
+    subst (λ (x : Answer). IsNext old.rules old.opening (past_of old) (record e { answer = x }) × BookGoesOn old new (record e { answer = x })) same h
 
 -- an entry in turn with another answer differs
 pub differs : (e : Entry) (old new : Journal) (ruled : Ruling) → IsInTurn old e → RulesOn e old new ruled → ¬ (ruled ≡ ruling.Answer e.answer)
@@ -101,7 +101,7 @@ next_here v o entries i at b e kept next =
     (subst (λ (p : Opening). IsNext b.rules p (reverse (take i entries)) e) kept.opening
     (subst (λ (es : List Entry). IsNext b.rules b.opening (reverse es) e) kept.entries_so next))
 
-pub kept_more : (v : ℕ) (o : Opening) (entries : List Entry) (i at : ℕ) (old new : Journal) (e : Entry) → Follows e old new None
+pub kept_more : (v : ℕ) (o : Opening) (entries : List Entry) (i at : ℕ) (old new : Journal) (e : Entry) → FollowsEntry e old new None
     → HasKept v o entries i at old → slice_get entries i ≡ Some e → HasKept v o entries (i + 1) e.at new
 kept_more v o entries i at old new e follows kept found =
     let more : take (i + 1) entries ≡ take i entries ++ e ∷ [] =
@@ -116,7 +116,7 @@ kept_more v o entries i at old new e follows kept found =
 
 -- the entry at a place differs, and those below it are legal
 pub first_wrong : (v : ℕ) (o : Opening) (entries : List Entry) (i at : ℕ) (old new : Journal) (e : Entry) (kept ruled : Ruling) → slice_get entries i ≡ Some e
-    → HasKept v o entries i at old → Follows e old new (Some (kept, ruled)) → IsFirstWrong v o entries i kept ruled
+    → HasKept v o entries i at old → FollowsEntry e old new (Some (kept, ruled)) → IsFirstWrong v o entries i kept ruled
 first_wrong v o entries i at old new e kept ruled found has differs = record {
   entry = e;
   found = found;

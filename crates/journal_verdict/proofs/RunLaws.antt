@@ -6,9 +6,9 @@ use Rattle.lb_model.specs.Present.{IsPresent}
 use Rattle.lb_model.specs.declared.journal.Entry.{Entry}
 use Rattle.lb_model.specs.declared.opening.Opening.{Opening}
 use Rattle.std.specs.Prelude.{reverse}
-use Rattle.journal_verdict.specs.Followed.{Follows, IsFollowed, IsOpened, IsShown}
+use Rattle.journal_verdict.specs.Followed.{FollowsBytes, IsFollowed, IsOpened, IsShown}
 use Rattle.journal_verdict.specs.Lines.{RunState, Stand}
-use Rattle.journal_verdict.specs.Machines.{HasRun, IsAt, IsRun, IsStanding, IsViewOf, Knows, FollowerState, HasFed}
+use Rattle.journal_verdict.specs.Machines.{HasRunState, KnowsAs, IsRunSoFar, IsStanding, IsViewOf, Knows, FollowerState, HasFed}
 use Rattle.journal_verdict.specs.declared.known.Known.{Known}
 use Rattle.journal_verdict.specs.declared.known.Known.TheVariants as known
 use Rattle.journal_verdict.specs.declared.machine.Machine.{Machine}
@@ -19,14 +19,14 @@ use Rattle.journal_verdict.specs.declared.view.FollowView.{FollowView}
 pub record StandsFor (among : Bool) (r : Run) (state : Option RunState) : Type 0 where
   pub run : RunState
   pub known : state ≡ Some run
-  pub is : IsRun among r run
+  pub is : IsRunSoFar among r run
 
-pub run_of : (among : Bool) (found : Option Run) (state : Option RunState) (r : Run) → HasRun among found state → found ≡ Some r → StandsFor among r state
+pub run_of : (among : Bool) (found : Option Run) (state : Option RunState) (r : Run) → HasRunState among found state → found ≡ Some r → StandsFor among r state
 run_of among None state r has is = absurd (let none : None ≡ Some r = is in cc)
 run_of among (Some x) None r has is = absurd has
 run_of among (Some x) (Some run) r has is =
     let same : x ≡ r = cc in
-    record { run = run; known = refl; is = subst (λ (y : Run). IsRun among y run) same has }
+    record { run = run; known = refl; is = subst (λ (y : Run). IsRunSoFar among y run) same has }
 
 present_of : (among : Bool) (r : Run) (run : RunState) (v : FollowView) → IsStanding among r run → IsPresent r.book.rules r.book.opening (past_of r.book) v.view
     → IsPresent run.rules run.opening (reverse run.entries) v.view
@@ -37,10 +37,10 @@ present_of true r run v stands present =
 present_of false r run v stands present = stands.view v.view present
 
 pub shown : (m : Machine) (number : ℕ) (part bytes : List ℕ) (r : Run) (v : FollowView) → Knows (known.Going m number) part bytes
-    → m.run ≡ Some r → IsViewOf r v → (s : Stand) × Follows bytes s × IsShown s v
+    → m.run ≡ Some r → IsViewOf r v → (s : Stand) × FollowsBytes bytes s × IsShown s v
 shown m number part bytes r v knows is view =
     let s : Stand = knows.2 in
-    let at : IsAt m s = knows.4 in
+    let at : KnowsAs m s = knows.4 in
     let has = run_of s.among m.run s.run r at.run is in (
       s,
       record { lines = knows.0; part = part; cut = knows.1; takes = knows.3 },

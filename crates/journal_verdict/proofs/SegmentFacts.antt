@@ -16,7 +16,7 @@ use Rattle.journal_text.specs.declared.line.Line.TheVariants as line
 use Rattle.journal_text.specs.SegmentText.{entry_lines, opening_lines}
 use Rattle.journal_text.specs.Written.{lines_of}
 use Rattle.journal_text.specs.declared.counted.Counted.{Counted}
-use Rattle.journal_verdict.specs.Checks.{After, Ends, EndsAt, IsFormer, IsOtherCount, JudgesOpening, Leaves, LeavesAs, past}
+use Rattle.journal_verdict.specs.Checks.{After, EndsSegment, EndsAt, IsFormer, IsOtherCount, JudgesOpening, Leaves, LeavesAs, past}
 use Rattle.journal_verdict.specs.Rulings.{IsFirstWrong}
 use Rattle.journal_verdict.specs.Verdicts.{Former, IsDifference, IsWrongAt, Joins, lines_before, opening_texts}
 use Rattle.journal_verdict.specs.declared.ruling.Ruling.{Ruling}
@@ -155,7 +155,7 @@ after_right r c ending q joins leaves is = (
 )
 
 -- what comes after a segment that joins the former one
-pub after_ends : (r : Reached) (c : Counted) (x : Result Check NoMemory) → Joins r.former c → IfOk x (Ends r.lines r.entries c) → IfOk x (After r c)
+pub after_ends : (r : Reached) (c : Counted) (x : Result Check NoMemory) → Joins r.former c → IfOk x (EndsSegment r.lines r.entries c) → IfOk x (After r c)
 after_ends r c (Err e) joins ends = tt
 after_ends r c (Ok (check.Good q)) joins ends = after_right r c ends.0 q joins ends.1 ends.2
 after_ends r c (Ok (check.Bad v)) joins ends = after_wrong_of r c (lines_before c) ends.0 v joins refl ends.1.1 ends.2
@@ -163,7 +163,7 @@ after_ends r c (Ok (check.Bad v)) joins ends = after_wrong_of r c (lines_before 
 -- an entry or the last line is wrong
 pub ends_wrong : (lines entries : ℕ) (c : Counted) (before : ℕ) (w : Wrong) (v : Verdict) → before ≡ lines_before c
     → Leaves c.rules c.opening c.entries c.count (Err w) → v ≡ verdict.Bad (lines + (before + w.at) + 1) w.kept w.ruled
-    → Ends lines entries c (check.Bad v)
+    → EndsSegment lines entries c (check.Bad v)
 ends_wrong lines entries c before w v here leaves is =
     (w, leaves, is ∙ ap (λ n. verdict.Bad (lines + (n + w.at) + 1) w.kept w.ruled) here)
 
@@ -180,6 +180,6 @@ past_is r c ending name lines entries same line entry =
 
 -- each of them is right
 pub ends_right : (lines entries : ℕ) (c : Counted) (name : List ℕ) (ending : Opening) (l e : ℕ) → LeavesAs c (Ok (name, ending))
-    → l ≡ lines + length (lines_of c) → e ≡ entries + length c.entries → Ends lines entries c (check.Good (reached_so (Some (name, ending)) l e))
+    → l ≡ lines + length (lines_of c) → e ≡ entries + length c.entries → EndsSegment lines entries c (check.Good (reached_so (Some (name, ending)) l e))
 ends_right lines entries c name ending l e leaves line entry =
     (ending, leaves.1, past_is (record { former = None; lines = lines; entries = entries }) c ending name l e leaves.0 line entry)

@@ -22,7 +22,7 @@ use Rattle.journal_text.specs.declared.line.Line.TheVariants as line
 use Rattle.journal_text.specs.declared.line.MemberValues.{MemberValues}
 use Rattle.journal_text.proofs.LineLaws.{line_spelled}
 use Rattle.journal_text.specs.Openings.{AreCounted, IsOpened, config_of, row_of}
-use Rattle.journal_text.specs.Reading.{Reads, ReadsText, TakesAt, TakesText, at_start, begun, continued, ended, headed, is_end, is_full, is_outside, named, opened, readable, unreadable, with_member, with_ticket}
+use Rattle.journal_text.specs.Reading.{ReadsLines, ReadsText, TakesAt, TakesText, at_start, begun, continued, ended, headed, is_end, is_full, is_outside, named, opened, readable, unreadable, with_member, with_ticket}
 use Rattle.journal_text.specs.SegmentText.{balancer_values, beginning, entry_lines, lease_lines, member_line, member_lines, opening_lines}
 use Rattle.journal_text.specs.Written.{lines_of, texts_of}
 use Rattle.journal_text.specs.declared.counted.Counted.{Counted}
@@ -331,12 +331,12 @@ ended_text r number last cs h =
     (λ no. absurd (let is : readable cs ≡ unreadable number = h ∙ cond-false (is_end r last) (readable r.done) (unreadable number) no in cc))
     (cases_Bool (is_end r last))
 
-reads_text : (r : Reader) (number : ℕ) (lines : List (List ℕ)) (cs : List Counted) → IsOrderedAt r.place → Reads r number lines (readable cs)
+reads_text : (r : Reader) (number : ℕ) (lines : List (List ℕ)) (cs : List Counted) → IsOrderedAt r.place → ReadsLines r number lines (readable cs)
     → taken r ++ join_with_byte 10 lines ≡ texts_of cs
 reads_text r number [] cs ordered h = absurd h
 reads_text r number (last ∷ []) cs ordered h = ended_text r number last cs h
 reads_text r number (text ∷ next ∷ lines) cs ordered h =
-    (elim h.0 as (λ found. TakesText r text found → MatchOption found (readable cs ≡ unreadable number) (λ q. Reads q (number + 1) (next ∷ lines) (readable cs))
+    (elim h.0 as (λ found. TakesText r text found → MatchOption found (readable cs ≡ unreadable number) (λ q. ReadsLines q (number + 1) (next ∷ lines) (readable cs))
     → taken r ++ join_with_byte 10 (text ∷ next ∷ lines) ≡ texts_of cs) [
       | None ↦ λ takes is. absurd (let no : readable cs ≡ unreadable number = is in cc)
       | Some q ↦ λ takes reads.

@@ -1,7 +1,7 @@
 -- The check of a text, as far as the text's lines were taken.
 use Rattle.std.specs.Prelude.{◌≡◌, ℕ, ◌+◌, ◌&&◌, Bool, true, false, nat_lt, List, [], ◌∷◌, length, Some, Result, Ok, Err}
 use Rattle.journal_text.specs.Kept.{IsSound}
-use Rattle.journal_text.specs.Reading.{Refuses, TakesText, is_end, is_over}
+use Rattle.journal_text.specs.Reading.{RefusesTextLine, TakesText, is_end, is_over}
 use Rattle.journal_text.specs.declared.counted.Counted.{Counted}
 use Rattle.journal_text.specs.declared.reader.Reader.{Reader}
 use Rattle.journal_text.specs.declared.text_error.TextError.{TextError}
@@ -33,7 +33,7 @@ Judged (c ∷ []) k some new = (new.reader.done ≡ []) × Leads k c new.check �
 Judged (c ∷ d ∷ cs) k some new = Unit {0}
 
 -- The reader goes on that has taken a line, and so does the check with the segment that ended with it, if one did.
-pub record GoesOn (r : Reader) (k : Check) (some : Bool) (number : ℕ) (new : Checker) : Type 0 where
+pub record CheckGoesOn (r : Reader) (k : Check) (some : Bool) (number : ℕ) (new : Checker) : Type 0 where
   pub sound : IsSound new.reader
   pub versions : new.reader.rules ≡ r.rules
   pub stands : new.reader.place ≡ r.place
@@ -46,10 +46,10 @@ may_end c last = c.some && is_over c.reader last
 
 -- Why a line isn't taken.
 abbrev pub RefusesLine : Checker → (text : List ℕ) → TextError → Type 0
-RefusesLine c text e = Refuses c.reader c.number text e
+RefusesLine c text e = RefusesTextLine c.reader c.number text e
 
 -- The answer at the end of a text whose segments these are; `last` is what stands after its last LF.
-abbrev pub EndsBy : (done : List Counted) → Checker → (last : List ℕ) → Result Verdict TextError → Type 0
-EndsBy done c last (Ok v) = (is_end (front done c.reader) last ≡ true) × IsVerdict done v
-EndsBy done c last (Err (error.Unreadable line)) = (line ≡ c.number) × (is_end (front done c.reader) last ≡ false)
-EndsBy done c last (Err error.NoMemory) = ⊥
+abbrev pub CheckEndsBy : (done : List Counted) → Checker → (last : List ℕ) → Result Verdict TextError → Type 0
+CheckEndsBy done c last (Ok v) = (is_end (front done c.reader) last ≡ true) × IsVerdict done v
+CheckEndsBy done c last (Err (error.Unreadable line)) = (line ≡ c.number) × (is_end (front done c.reader) last ≡ false)
+CheckEndsBy done c last (Err error.NoMemory) = ⊥

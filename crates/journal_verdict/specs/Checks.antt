@@ -13,7 +13,7 @@ use Rattle.journal_text.specs.declared.reader.TextPlace.{TextPlace}
 use Rattle.journal_text.specs.declared.reader.TextPlace.TheVariants as place
 use Rattle.journal_text.specs.declared.reader.Reader.{Reader}
 use Rattle.journal_verdict.specs.Rulings.{IsFirstWrong}
-use Rattle.journal_verdict.specs.Verdicts.{AreRight, Former, IsFirstBad, IsRight, IsWrongAt, Joins, entries_in, lines_before, lines_in}
+use Rattle.journal_verdict.specs.Verdicts.{AreRight, Former, IsFirstBadLine, IsRight, IsWrongAt, Joins, entries_in, lines_before, lines_in}
 use Rattle.journal_verdict.specs.declared.ruling.Ruling.{Ruling}
 use Rattle.journal_verdict.specs.declared.ruling.Ruling.TheVariants as ruling
 use Rattle.journal_verdict.specs.declared.ruling.Verdict.{Verdict}
@@ -64,11 +64,11 @@ LeavesAs c (Ok (name, ending)) = (name ≡ c.name) × Leaves c.rules c.opening c
 LeavesAs c (Err w) = Leaves c.rules c.opening c.entries c.count (Err w)
 
 -- The end of a segment whose opening is right, after this many lines and entries.
-abbrev pub Ends : (lines entries : ℕ) → Counted → Check → Type 0
-Ends lines entries c (check.Good q) =
+abbrev pub EndsSegment : (lines entries : ℕ) → Counted → Check → Type 0
+EndsSegment lines entries c (check.Good q) =
     (ending : Opening) × Leaves c.rules c.opening c.entries c.count (Ok ending)
     × (q ≡ past (record { former = None; lines = lines; entries = entries }) c ending)
-Ends lines entries c (check.Bad v) =
+EndsSegment lines entries c (check.Bad v) =
     (w : Wrong) × Leaves c.rules c.opening c.entries c.count (Err w)
     × (v ≡ verdict.Bad (lines + (lines_before c + w.at) + 1) w.kept w.ruled)
 
@@ -81,10 +81,10 @@ After r c (check.Bad v) =
     (i : ℕ) × (kept ruled : Ruling) × IsWrongAt r.former c i kept ruled × (v ≡ verdict.Bad (r.lines + i + 1) kept ruled)
 
 -- There is room for the numbers of a further segment's lines and entries.
-abbrev pub HasRoom : Check → Counted → Type 0
-HasRoom (check.Good q) c =
+abbrev pub HasCountRoom : Check → Counted → Type 0
+HasCountRoom (check.Good q) c =
     IsFormer q.former × (q.lines + length (lines_of c) < 2 ^ 32) × (q.entries + length c.entries < 2 ^ 64)
-HasRoom (check.Bad v) c = Unit {0}
+HasCountRoom (check.Bad v) c = Unit {0}
 
 -- The check after a further segment, unless one before it was wrong.
 abbrev pub Leads : Check → Counted → Check → Type 0
@@ -103,14 +103,14 @@ verdict_of (check.Good q) = verdict.Good q.entries
 verdict_of (check.Bad v) = v
 
 -- These segments come to the verdict that a line is bad.
-abbrev pub IsBad : List Counted → Verdict → Type 0
-IsBad cs (verdict.Good entries) = ⊥
-IsBad cs (verdict.Bad line kept ruled) = IsFirstBad cs line kept ruled
+abbrev pub AreBadSegments : List Counted → Verdict → Type 0
+AreBadSegments cs (verdict.Good entries) = ⊥
+AreBadSegments cs (verdict.Bad line kept ruled) = IsFirstBadLine cs line kept ruled
 
 -- The check of these segments.
 abbrev pub Comes : List Counted → Check → Type 0
 Comes cs (check.Good q) = AreRight None cs q.former × IsFormer q.former × (q.lines ≡ lines_in cs) × (q.entries ≡ entries_in cs)
-Comes cs (check.Bad v) = IsBad cs v
+Comes cs (check.Bad v) = AreBadSegments cs v
 
 -- The reader, with further segments before its own.
 abbrev pub front : List Counted → Reader → Reader

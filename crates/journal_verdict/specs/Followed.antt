@@ -2,7 +2,7 @@
 use Rattle.std.specs.Prelude.{◌≡◌, ◌≢◌, ℕ, ◌+◌, ◌⊎◌, List, [], ◌∷◌, ◌++◌, length, reverse, Option, Some, None, Result, Ok, Err}
 use Rattle.std.specs.List.{All, flat_map}
 use Rattle.lb_model.specs.Present.{IsPresent}
-use Rattle.journal_verdict.specs.Lines.{Refuses, RunState, Stand, Takes, at_first}
+use Rattle.journal_verdict.specs.Lines.{RefusesLineAt, RunState, Stand, StandTakes, at_first}
 use Rattle.journal_verdict.specs.declared.error.FollowError.{FollowError}
 use Rattle.journal_verdict.specs.declared.error.FollowError.TheVariants as wrong
 use Rattle.journal_verdict.specs.declared.view.FollowView.{FollowView}
@@ -14,7 +14,7 @@ abbrev pub HasNoEnd : List ℕ → Type 0
 HasNoEnd text = All (λ byte. byte ≢ 10) text
 
 -- The bytes are these lines, each with its LF, and what follows the last LF.
-pub record IsCut (bytes : List ℕ) (lines : List (List ℕ)) (part : List ℕ) : Type 0 where
+pub record IsCutIntoLines (bytes : List ℕ) (lines : List (List ℕ)) (part : List ℕ) : Type 0 where
   pub whole : bytes ≡ flat_map ended lines ++ part
   pub single : All HasNoEnd lines
   pub rest : HasNoEnd part
@@ -22,13 +22,13 @@ pub record IsCut (bytes : List ℕ) (lines : List (List ℕ)) (part : List ℕ) 
 -- Each of the lines is taken, from here on.
 abbrev pub FollowsTo : Stand → List (List ℕ) → Stand → Type 0
 FollowsTo s [] t = t ≡ s
-FollowsTo s (text ∷ lines) t = (m : Stand) × Takes s text m × FollowsTo m lines t
+FollowsTo s (text ∷ lines) t = (m : Stand) × StandTakes s text m × FollowsTo m lines t
 
 -- All lines of the bytes are taken.
-pub record Follows (bytes : List ℕ) (s : Stand) : Type 0 where
+pub record FollowsBytes (bytes : List ℕ) (s : Stand) : Type 0 where
   pub lines : List (List ℕ)
   pub part : List ℕ
-  pub cut : IsCut bytes lines part
+  pub cut : IsCutIntoLines bytes lines part
   pub takes : FollowsTo at_first lines s
 
 -- The lines before one of the bytes' lines are taken, and that one is refused.
@@ -41,17 +41,17 @@ pub record StopsAt (bytes : List ℕ) (e : FollowError) : Type 0 where
   pub one : HasNoEnd text
   pub stand : Stand
   pub takes : FollowsTo at_first before stand
-  pub refuses : Refuses stand (length before + 1) text e
+  pub refuses : RefusesLineAt stand (length before + 1) text e
 
 -- The first line that can't be read or is bad is the refusal; want of memory says nothing.
-abbrev pub IsStopped : (bytes : List ℕ) → FollowError → Type 0
-IsStopped bytes wrong.NoMemory = Unit {0}
-IsStopped bytes e = StopsAt bytes e
+abbrev pub IsStoppedText : (bytes : List ℕ) → FollowError → Type 0
+IsStoppedText bytes wrong.NoMemory = Unit {0}
+IsStoppedText bytes e = StopsAt bytes e
 
 -- what a feed says after all bytes so far
 abbrev pub IsFed : (bytes : List ℕ) → Result (Unit {0}) FollowError → Type 0
-IsFed bytes (Ok done) = (s : Stand) × Follows bytes s
-IsFed bytes (Err e) = IsStopped bytes e
+IsFed bytes (Ok done) = (s : Stand) × FollowsBytes bytes s
+IsFed bytes (Err e) = IsStoppedText bytes e
 
 -- the last opening that is whole, and the entries after it
 pub record IsShown (s : Stand) (v : FollowView) : Type 0 where
@@ -64,10 +64,10 @@ pub record IsShown (s : Stand) (v : FollowView) : Type 0 where
 
 -- Nothing is shown before an opening is whole.
 abbrev pub IsOpened : (bytes : List ℕ) → Option FollowView → Type 0
-IsOpened bytes None = (s : Stand) × Follows bytes s × (s.run ≡ None)
-IsOpened bytes (Some v) = (s : Stand) × Follows bytes s × IsShown s v
+IsOpened bytes None = (s : Stand) × FollowsBytes bytes s × (s.run ≡ None)
+IsOpened bytes (Some v) = (s : Stand) × FollowsBytes bytes s × IsShown s v
 
 -- Nor is it after a refusal.
 abbrev pub IsFollowed : (bytes : List ℕ) → Option FollowView → Type 0
-IsFollowed bytes None = IsOpened bytes None ⊎ ((e : FollowError) × (e ≢ wrong.NoMemory) × IsStopped bytes e)
+IsFollowed bytes None = IsOpened bytes None ⊎ ((e : FollowError) × (e ≢ wrong.NoMemory) × IsStoppedText bytes e)
 IsFollowed bytes (Some v) = IsOpened bytes (Some v)

@@ -17,7 +17,7 @@ pub record IsInTurn (b : Journal) (e : Entry) : Type 0 where
   pub kept : IsKeptEntry b.rules e
 
 -- The Book went on by just this entry.
-pub record GoesOn (old new : Journal) (e : Entry) : Type 0 where
+pub record BookGoesOn (old new : Journal) (e : Entry) : Type 0 where
   pub rules : new.rules ≡ old.rules
   pub opening : new.opening ≡ old.opening
   pub entries : new.entries ≡ old.entries ++ e ∷ []
@@ -26,13 +26,13 @@ pub record GoesOn (old new : Journal) (e : Entry) : Type 0 where
 -- The ruling on an entry; with an answer the Book went on by it.
 abbrev pub RulesOn : Entry → (old new : Journal) → Ruling → Type 0
 RulesOn e old new (ruling.Answer a) =
-    RulesAfter old.rules old.opening (past_of old) e (ruling.Answer a) × GoesOn old new (record e { answer = a })
+    RulesAfter old.rules old.opening (past_of old) e (ruling.Answer a) × BookGoesOn old new (record e { answer = a })
 RulesOn e old new other = RulesAfter old.rules old.opening (past_of old) e other
 
 -- The entry follows, and the Book went on by it; or it differs.
-abbrev pub Follows : Entry → (old new : Journal) → Option (Ruling × Ruling) → Type 0
-Follows e old new None = IsNext old.rules old.opening (past_of old) e × GoesOn old new e
-Follows e old new (Some wrong) = Differs old.rules old.opening (past_of old) e wrong.0 wrong.1
+abbrev pub FollowsEntry : Entry → (old new : Journal) → Option (Ruling × Ruling) → Type 0
+FollowsEntry e old new None = IsNext old.rules old.opening (past_of old) e × BookGoesOn old new e
+FollowsEntry e old new (Some wrong) = Differs old.rules old.opening (past_of old) e wrong.0 wrong.1
 
 -- The Book went on by just these entries, from where it had none.
 pub record Replays (old new : Journal) (kept : List Entry) : Type 0 where

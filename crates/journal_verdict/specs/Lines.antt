@@ -77,8 +77,8 @@ TakesLine true (Some run) s text t = TakesEntry s run (line_of run.rules text) t
 TakesLine true None s text t = ⊥
 TakesLine false run s text t = TakesHead s text t
 
-abbrev pub Takes : Stand → (text : List ℕ) → Stand → Type 0
-Takes s text t = TakesLine s.among s.run s text t
+abbrev pub StandTakes : Stand → (text : List ℕ) → Stand → Type 0
+StandTakes s text t = TakesLine s.among s.run s text t
 
 -- A line of a later opening differs from what the run ended with.
 pub record DiffersHead (s : Stand) (text : List ℕ) (kept ruled : Ruling) : Type 0 where
@@ -107,19 +107,19 @@ is_among (Some (line.End count)) = true
 is_among other = false
 
 -- The line can't be read where it stands.
-abbrev pub IsUnread : (among : Bool) → Option RunState → Stand → (text : List ℕ) → Type 0
-IsUnread true (Some run) s text = is_among (line_of run.rules text) ≡ false
-IsUnread true None s text = ⊥
-IsUnread false run s text = TakesText s.reader text None
+abbrev pub IsUnreadLine : (among : Bool) → Option RunState → Stand → (text : List ℕ) → Type 0
+IsUnreadLine true (Some run) s text = is_among (line_of run.rules text) ≡ false
+IsUnreadLine true None s text = ⊥
+IsUnreadLine false run s text = TakesText s.reader text None
 
 -- The line has something else than it ought to have.
-abbrev pub IsBad : (among : Bool) → Option RunState → Stand → (text : List ℕ) → (kept ruled : Ruling) → Type 0
-IsBad true (Some run) s text kept ruled = DiffersEntry run (line_of run.rules text) kept ruled
-IsBad true None s text kept ruled = ⊥
-IsBad false run s text kept ruled = DiffersHead s text kept ruled
+abbrev pub IsBadLine : (among : Bool) → Option RunState → Stand → (text : List ℕ) → (kept ruled : Ruling) → Type 0
+IsBadLine true (Some run) s text kept ruled = DiffersEntry run (line_of run.rules text) kept ruled
+IsBadLine true None s text kept ruled = ⊥
+IsBadLine false run s text kept ruled = DiffersHead s text kept ruled
 
 -- The line with this number is refused. Want of memory says nothing.
-abbrev pub Refuses : Stand → (number : ℕ) → (text : List ℕ) → FollowError → Type 0
-Refuses s number text (wrong.Unreadable line) = (line ≡ number) × IsUnread s.among s.run s text
-Refuses s number text (wrong.Bad line kept ruled) = (line ≡ number) × IsBad s.among s.run s text kept ruled
-Refuses s number text wrong.NoMemory = Unit {0}
+abbrev pub RefusesLineAt : Stand → (number : ℕ) → (text : List ℕ) → FollowError → Type 0
+RefusesLineAt s number text (wrong.Unreadable line) = (line ≡ number) × IsUnreadLine s.among s.run s text
+RefusesLineAt s number text (wrong.Bad line kept ruled) = (line ≡ number) × IsBadLine s.among s.run s text kept ruled
+RefusesLineAt s number text wrong.NoMemory = Unit {0}

@@ -30,17 +30,17 @@ IsAllowed o p at call.Maintain = maintained_of o p + o.config.maintain ≤ at
 IsAllowed o p at (call.Admin c) = IsDoable o p c
 
 -- Why the call of an entry has no legal answer; that there is no number for it is said last.
-abbrev pub Refuses : Opening → List Entry → Entry → Call → Ruling → Type 0
-Refuses o p e (call.Return ticket outcome) ruling.Stray = is_out o p ticket ≡ false
-Refuses o p e call.Maintain ruling.NotDue = e.at < maintained_of o p + o.config.maintain
-Refuses o p e (call.Admin c) (ruling.Refused code) = IsRefusal o p c code
-Refuses o p e asked ruling.Full = IsAllowed o p e.at asked × (most_numbers < e.seq + length (out o p) + taken_by asked)
-Refuses o p e asked other = ⊥
+abbrev pub HasNoLegalAnswer : Opening → List Entry → Entry → Call → Ruling → Type 0
+HasNoLegalAnswer o p e (call.Return ticket outcome) ruling.Stray = is_out o p ticket ≡ false
+HasNoLegalAnswer o p e call.Maintain ruling.NotDue = e.at < maintained_of o p + o.config.maintain
+HasNoLegalAnswer o p e (call.Admin c) (ruling.Refused code) = IsRefusal o p c code
+HasNoLegalAnswer o p e asked ruling.Full = IsAllowed o p e.at asked × (most_numbers < e.seq + length (out o p) + taken_by asked)
+HasNoLegalAnswer o p e asked other = ⊥
 
 -- The ruling on an entry whose number and moment are right: the one legal answer, or why there is none.
 abbrev pub RulesAfter : (v : ℕ) → Opening → List Entry → Entry → Ruling → Type 0
 RulesAfter v o p e (ruling.Answer a) = IsNext v o p (record e { answer = a })
-RulesAfter v o p e other = Refuses o p e e.call other
+RulesAfter v o p e other = HasNoLegalAnswer o p e e.call other
 
 -- The difference between what an entry has and what it ought to have: its number, then its moment, then its answer.
 abbrev pub Differs : (v : ℕ) → Opening → List Entry → Entry → (kept ruled : Ruling) → Type 0

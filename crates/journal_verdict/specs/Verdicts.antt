@@ -92,7 +92,7 @@ abbrev pub entries_in : List Counted → ℕ
 entries_in cs = sum_by (λ c. length c.entries) cs
 
 -- Segments are right up to one of them, and this line of the text, from 1, is the first one of it that is wrong.
-pub record IsFirstBad (cs : List Counted) (line : ℕ) (kept ruled : Ruling) : Type 0 where
+pub record IsFirstBadLine (cs : List Counted) (line : ℕ) (kept ruled : Ruling) : Type 0 where
   pub before : List Counted
   pub segment : Counted
   pub later : List Counted
@@ -106,7 +106,7 @@ pub record IsFirstBad (cs : List Counted) (line : ℕ) (kept ruled : Ruling) : T
 -- The verdict on segments.
 abbrev pub IsVerdict : List Counted → Verdict → Type 0
 IsVerdict cs (verdict.Good entries) = (last : Former) × AreRight None cs last × (entries ≡ entries_in cs)
-IsVerdict cs (verdict.Bad line kept ruled) = IsFirstBad cs line kept ruled
+IsVerdict cs (verdict.Bad line kept ruled) = IsFirstBadLine cs line kept ruled
 
 -- The answer to a text: that it can't be read at a line, or the verdict on its segments.
 abbrev pub IsChecked : (text : List ℕ) → Result Verdict TextError → Type 0

@@ -8,8 +8,8 @@ use std::alloc::Global;
 
 impl Check {
     ghost use Rattle.std.specs.Prelude.{◌≡◌, IfOk};
-    ghost use Rattle.journal_text.specs.Kept.{IsKept};
-    ghost use Rattle.journal_verdict.specs.Checks.{HasRoom, Leads, at_first, verdict_of};
+    ghost use Rattle.journal_text.specs.Kept.{IsKeptSegment};
+    ghost use Rattle.journal_verdict.specs.Checks.{HasCountRoom, Leads, at_first, verdict_of};
 
     fn new() -> Check
         ensures { result ≡ Check.Good at_first }
@@ -23,8 +23,8 @@ impl Check {
 
     // After a further segment.
     fn take(self, alloc: Global, segment: Counted) -> Result<Check, NoMemory>
-        requires kept { IsKept segment }
-        requires room { HasRoom self segment }
+        requires kept { IsKeptSegment segment }
+        requires room { HasCountRoom self segment }
         ensures { IfOk result (Leads self segment) }
     {
         match self {
@@ -67,8 +67,8 @@ impl Checker {
     ghost use Rattle.journal_text.specs.Kept.{IsSound};
     ghost use Rattle.journal_text.specs.Reading.{at_start};
     ghost use Rattle.journal_text.specs.declared.counted.Counted.{Counted};
-    ghost use Rattle.journal_verdict.specs.Checkers.{Advances, EndsBy, GoesOn, HasTaken, RefusesLine, may_end};
-    ghost use Rattle.journal_verdict.specs.Checks.{HasRoom, verdict_of};
+    ghost use Rattle.journal_verdict.specs.Checkers.{Advances, CheckEndsBy, CheckGoesOn, HasTaken, RefusesLine, may_end};
+    ghost use Rattle.journal_verdict.specs.Checks.{HasCountRoom, verdict_of};
     ghost use Rattle.jk_io.specs.declared.whole_input.TheConstants.{MAX_INPUT_BYTES};
 
     /// Before the first line.
@@ -95,8 +95,8 @@ impl Checker {
     ) -> Result<Checker, NoMemory>
         requires sound { IsSound reader }
         requires few { length reader.done ≤ 1 }
-        requires room { (c : Counted) → reader.done ≡ c ∷ [] → HasRoom check c }
-        ensures { IfOk result (GoesOn reader check some number) }
+        requires room { (c : Counted) → reader.done ≡ c ∷ [] → HasCountRoom check c }
+        ensures { IfOk result (CheckGoesOn reader check some number) }
     {
         let mut reader = reader;
         let Some(segment) = reader.take_segment() else {
@@ -150,7 +150,7 @@ impl Checker {
 
     /// The verdict, where a text may end here; `last` is what stands after its last LF.
     pub(crate) fn end(self, last: &[u8]) -> Result<Verdict, TextError>
-        ensures { (done : List Counted) → HasTaken self done → EndsBy done self last.now result }
+        ensures { (done : List Counted) → HasTaken self done → CheckEndsBy done self last.now result }
     {
         let whole = self.may_end(last);
         let number = self.number;

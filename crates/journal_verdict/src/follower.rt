@@ -1,7 +1,7 @@
 //! A balancer's journal, followed as its bytes come.
 ghost use Rattle.std.specs.Prelude.{◌≡◌, ℕ, List, [], ◌∷◌, ◌++◌, IfErr, IfOk, OnOk, true};
-ghost use Rattle.journal_verdict.specs.Followed.{IsFed, IsFollowed, IsOpened, IsStopped};
-ghost use Rattle.journal_verdict.specs.Machines.{Answers, FollowerState, HasFed, IsViewOf, Knows, ShowsNone, is_going};
+ghost use Rattle.journal_verdict.specs.Followed.{IsFed, IsFollowed, IsOpened, IsStoppedText};
+ghost use Rattle.journal_verdict.specs.Machines.{AnswersByKnown, FollowerState, HasFed, IsViewOf, Knows, ShowsNone, is_going};
 ghost use Rattle.journal_verdict.specs.declared.known.Known.{Known as AnyKnown};
 ghost use Rattle.journal_verdict.specs.declared.error.FollowError.{FollowError as AnyError};
 
@@ -45,7 +45,7 @@ fn take_byte(
     ensures ok { (bytes : List ℕ) → Knows (AnyKnown.Going machine.old number.old) part.old bytes
         → OnOk result (Knows (AnyKnown.Going machine.new number.new) part.new (bytes ++ byte ∷ [])) }
     ensures err { (bytes : List ℕ) → Knows (AnyKnown.Going machine.old number.old) part.old bytes
-        → IfErr result (IsStopped (bytes ++ byte ∷ [])) }
+        → IfErr result (IsStoppedText (bytes ++ byte ∷ [])) }
 {
     if byte != b'\n' {
         return Ok(part.push(byte)?);
@@ -71,7 +71,7 @@ fn follow(
     ensures ok { (bytes : List ℕ) → Knows (AnyKnown.Going machine.old number.old) part.old bytes
         → OnOk result (Knows (AnyKnown.Going machine.new number.new) part.new (bytes ++ piece.now)) }
     ensures err { (bytes : List ℕ) → Knows (AnyKnown.Going machine.old number.old) part.old bytes
-        → IfErr result (IsStopped (bytes ++ piece.now)) }
+        → IfErr result (IsStoppedText (bytes ++ piece.now)) }
 {
     for byte in piece {
         take_byte(alloc, machine, number, part, *byte)?;
@@ -98,7 +98,7 @@ fn fed(alloc: Global, known: &mut Known, part: &mut Bytes, piece: &[u8])
 fn answered(known: &mut Known) -> Result<(), FollowError>
     ensures kept { (part : List ℕ) → (bytes : List ℕ) → Knows known.old part bytes → Knows known.new part bytes }
     ensures said { (part : List ℕ) → (bytes : List ℕ) → Knows known.old part bytes → IsFed bytes result }
-    ensures answers { Answers known.old known.new result }
+    ensures answers { AnswersByKnown known.old known.new result }
 {
     let Known::Stopped(error) = known else {
         return Ok(());
@@ -148,7 +148,7 @@ impl Follower {
     pub fn feed(&mut self, alloc: Global, piece: &[u8]) -> Result<(), FollowError>
         ensures fed { (bytes : List ℕ) → HasFed self.old bytes → HasFed self.new (bytes ++ piece.now) }
         ensures said { (bytes : List ℕ) → HasFed self.old bytes → IsFed (bytes ++ piece.now) result }
-        ensures answers { (known : AnyKnown) × Answers known self.new.known result
+        ensures answers { (known : AnyKnown) × AnswersByKnown known self.new.known result
             × ((e : AnyError) → self.old.known ≡ Known.Stopped e → known ≡ Known.Stopped e) }
     {
         fed(alloc, &mut self.known, &mut self.part, piece);

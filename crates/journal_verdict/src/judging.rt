@@ -4,7 +4,7 @@ ghost use Rattle.lb_book.specs.Journal.{IsSound, past_of};
 ghost use Rattle.lb_model.specs.Journal.{moment_of};
 ghost use Rattle.lb_model.specs.Segments.{AreKeptEntries, IsKeptEntry};
 ghost use Rattle.lb_model.specs.declared.journal.Call.{Call};
-ghost use Rattle.journal_verdict.specs.Judging.{Follows, IsInTurn, JudgesEntries, RulesOn};
+ghost use Rattle.journal_verdict.specs.Judging.{FollowsEntry, IsInTurn, JudgesEntries, RulesOn};
 
 use crate::ruling::{Ruling, Wrong};
 use jk_io::NoMemory;
@@ -91,7 +91,7 @@ fn rule(book: &mut Book, entry: &Entry) -> Result<Ruling, NoMemory>
 pub fn judge(book: &mut Book, at: u64, entry: &Entry) -> Result<Option<(Ruling, Ruling)>, NoMemory>
     requires at { at ≡ moment_of book.old.opening (past_of book.old) }
     requires kept { IsKeptEntry book.old.rules entry.now }
-    ensures { IfOk result (Follows entry.now book.old book.new) }
+    ensures { IfOk result (FollowsEntry entry.now book.old book.new) }
 {
     let next = book.next();
     if entry.seq != next {

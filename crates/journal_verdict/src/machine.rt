@@ -3,8 +3,8 @@ ghost use Rattle.std.specs.Prelude.{◌≡◌, ◌+◌, ◌<◌, ◌^◌, IfErr,
 ghost use Rattle.lb_model.specs.Validity.{IsOpening};
 ghost use Rattle.journal_text.specs.Kept.{IsSound};
 ghost use Rattle.journal_text.specs.Reading.{TakesText, held};
-ghost use Rattle.journal_verdict.specs.Lines.{Refuses, RunState, Stand, Takes, at_first, is_among};
-ghost use Rattle.journal_verdict.specs.Machines.{AddsHead, IsAt};
+ghost use Rattle.journal_verdict.specs.Lines.{RefusesLineAt, RunState, Stand, StandTakes, at_first, is_among};
+ghost use Rattle.journal_verdict.specs.Machines.{AddsHead, KnowsAs};
 
 use crate::error::FollowError;
 use crate::heading::difference;
@@ -38,7 +38,7 @@ fn bad_line(alloc: Global, number: u64, text: &[u8], ruled: Bytes) -> Result<Fol
     })
 }
 
-/// Takes a line's text. False: it can't be read there.
+/// StandTakes a line's text. False: it can't be read there.
 fn take_text(alloc: Global, reader: &mut Reader, text: &[u8]) -> Result<bool, NoMemory>
     requires few { held reader.old.place < 2 ^ 32 }
     requires sound { IsSound reader.old }
@@ -84,12 +84,12 @@ fn is_among(read: &Option<Line>) -> bool
 
 impl Machine {
     ghost use Rattle.std.specs.Prelude.{◌≡◌, IfErr, OnOk, true, false};
-    ghost use Rattle.journal_verdict.specs.Lines.{Refuses, Stand, Takes, at_first};
-    ghost use Rattle.journal_verdict.specs.Machines.{IsAt};
+    ghost use Rattle.journal_verdict.specs.Lines.{RefusesLineAt, Stand, StandTakes, at_first};
+    ghost use Rattle.journal_verdict.specs.Machines.{KnowsAs};
 
     /// Before the first line.
     pub(crate) fn new(alloc: Global) -> Machine
-        ensures { IsAt result at_first }
+        ensures { KnowsAs result at_first }
     {
         Machine {
             reader: Reader::new(alloc),
@@ -101,9 +101,9 @@ impl Machine {
 
     fn take_entry(&mut self, alloc: Global, text: &[u8], number: u64) -> Result<(), FollowError>
         requires among { self.old.among ≡ true }
-        requires known { (s : Stand) × IsAt self.old s }
-        ensures ok { (s : Stand) → IsAt self.old s → OnOk result ((t : Stand) × Takes s text.now t × IsAt self.new t) }
-        ensures err { (s : Stand) → IsAt self.old s → IfErr result (Refuses s number text.now) }
+        requires known { (s : Stand) × KnowsAs self.old s }
+        ensures ok { (s : Stand) → KnowsAs self.old s → OnOk result ((t : Stand) × StandTakes s text.now t × KnowsAs self.new t) }
+        ensures err { (s : Stand) → KnowsAs self.old s → IfErr result (RefusesLineAt s number text.now) }
     {
         let read = read_line(alloc, self.reader.rules(), text)?;
         if !is_among(&read) {
@@ -125,9 +125,9 @@ impl Machine {
 
     fn take_head(&mut self, alloc: Global, text: &[u8], number: u64) -> Result<(), FollowError>
         requires shut { self.old.among ≡ false }
-        requires known { (s : Stand) × IsAt self.old s }
-        ensures ok { (s : Stand) → IsAt self.old s → OnOk result ((t : Stand) × Takes s text.now t × IsAt self.new t) }
-        ensures err { (s : Stand) → IsAt self.old s → IfErr result (Refuses s number text.now) }
+        requires known { (s : Stand) × KnowsAs self.old s }
+        ensures ok { (s : Stand) → KnowsAs self.old s → OnOk result ((t : Stand) × StandTakes s text.now t × KnowsAs self.new t) }
+        ensures err { (s : Stand) → KnowsAs self.old s → IfErr result (RefusesLineAt s number text.now) }
     {
         if self.taken == u32::MAX {
             return Err(FollowError::NoMemory);
@@ -141,16 +141,16 @@ impl Machine {
         Ok(after_head(alloc, self)?)
     }
 
-    /// Takes a further line, which has this number. After a refusal nothing is said of the machine.
+    /// StandTakes a further line, which has this number. After a refusal nothing is said of the machine.
     pub(crate) fn take(
         &mut self,
         alloc: Global,
         text: &[u8],
         number: u64,
     ) -> Result<(), FollowError>
-        requires known { (s : Stand) × IsAt self.old s }
-        ensures ok { (s : Stand) → IsAt self.old s → OnOk result ((t : Stand) × Takes s text.now t × IsAt self.new t) }
-        ensures err { (s : Stand) → IsAt self.old s → IfErr result (Refuses s number text.now) }
+        requires known { (s : Stand) × KnowsAs self.old s }
+        ensures ok { (s : Stand) → KnowsAs self.old s → OnOk result ((t : Stand) × StandTakes s text.now t × KnowsAs self.new t) }
+        ensures err { (s : Stand) → KnowsAs self.old s → IfErr result (RefusesLineAt s number text.now) }
     {
         if self.among {
             self.take_entry(alloc, text, number)

@@ -31,7 +31,7 @@ impl Run {
     ghost use Rattle.lb_model.specs.Segments.{AreRules, IsKeptEntry};
     ghost use Rattle.lb_model.specs.Validity.{IsOpening};
     ghost use Rattle.journal_verdict.specs.Lines.{RunState};
-    ghost use Rattle.journal_verdict.specs.Machines.{DiffersBy, EndsRun, IsRun, TakesOn};
+    ghost use Rattle.journal_verdict.specs.Machines.{DiffersBy, EndsRun, IsRunSoFar, TakesOn};
 
     /// After an opening of these rules.
     pub(crate) fn begin(name: Bytes, opening: Opening, rules: u8) -> Result<Run, NoMemory>
@@ -58,8 +58,8 @@ impl Run {
     pub(crate) fn take_entry(&mut self, entry: &Entry, number: u64) -> Result<(), FollowError>
         requires at { self.old.at ≡ moment_of self.old.book.opening (past_of self.old.book) }
         requires kept { IsKeptEntry self.old.book.rules entry.now }
-        ensures ok { (run : RunState) → IsRun true self.old run → OnOk result (TakesOn run entry.now self.new) }
-        ensures err { (run : RunState) → IsRun true self.old run → IfErr result (DiffersBy run entry.now number) }
+        ensures ok { (run : RunState) → IsRunSoFar true self.old run → OnOk result (TakesOn run entry.now self.new) }
+        ensures err { (run : RunState) → IsRunSoFar true self.old run → IfErr result (DiffersBy run entry.now number) }
     {
         match judge(&mut self.book, self.at, entry)? {
             None => {
@@ -76,7 +76,7 @@ impl Run {
 
     /// Ends the segment, if this is the count of its entries.
     pub(crate) fn take_end(&mut self, count: u64, number: u64) -> Result<(), FollowError>
-        ensures { (run : RunState) → IsRun true self.old run → EndsRun run count number self.new result }
+        ensures { (run : RunState) → IsRunSoFar true self.old run → EndsRun run count number self.new result }
     {
         let kept = self.book.kept();
         if count != kept {

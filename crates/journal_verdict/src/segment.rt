@@ -4,9 +4,9 @@ ghost use Rattle.lb_book.specs.Ending.{IsCut};
 ghost use Rattle.lb_book.specs.Journal.{IsSound};
 ghost use Rattle.lb_model.specs.Segments.{AreKeptEntries, AreRules};
 ghost use Rattle.lb_model.specs.Validity.{IsOpening};
-ghost use Rattle.journal_text.specs.Kept.{IsKept};
+ghost use Rattle.journal_text.specs.Kept.{IsKeptSegment};
 ghost use Rattle.journal_text.specs.Written.{lines_of};
-ghost use Rattle.journal_verdict.specs.Checks.{After, Ends, EndsAt, IsFormer, IsOtherCount, JudgesOpening, Leaves, LeavesAs};
+ghost use Rattle.journal_verdict.specs.Checks.{After, EndsSegment, EndsAt, IsFormer, IsOtherCount, JudgesOpening, Leaves, LeavesAs};
 ghost use Rattle.journal_verdict.specs.Verdicts.{lines_before};
 
 use crate::joining::first_difference;
@@ -38,7 +38,7 @@ fn judge_opening(
     former: Option<(Bytes, Opening)>,
     segment: &Counted,
 ) -> Result<Option<Wrong>, NoMemory>
-    requires kept { IsKept segment.now }
+    requires kept { IsKeptSegment segment.now }
     requires former { IsFormer former }
     ensures { IfOk result (JudgesOpening former segment.now) }
 {
@@ -147,7 +147,7 @@ fn end_of_all(
 
 // Under which name and where a segment ends, if its entries and their count are right.
 fn leave(segment: Counted) -> Result<Result<(Bytes, Opening), Wrong>, NoMemory>
-    requires kept { IsKept segment }
+    requires kept { IsKeptSegment segment }
     ensures { IfOk result (LeavesAs segment) }
 {
     let Counted {
@@ -165,7 +165,7 @@ fn leave(segment: Counted) -> Result<Result<(Bytes, Opening), Wrong>, NoMemory>
 
 // How many lines a segment has before its entries.
 fn lines_before(segment: &Counted) -> usize
-    requires kept { IsKept segment.now }
+    requires kept { IsKeptSegment segment.now }
     requires few { length (lines_of segment.now) < 2 ^ 32 }
     ensures { result ≡ lines_before segment.now }
 {
@@ -175,10 +175,10 @@ fn lines_before(segment: &Counted) -> usize
 
 // What comes after a segment whose opening is right; `lines` and `entries` count what stands before it.
 fn take_entries(lines: u32, entries: u64, segment: Counted) -> Result<Check, NoMemory>
-    requires kept { IsKept segment }
+    requires kept { IsKeptSegment segment }
     requires few { lines + length (lines_of segment) < 2 ^ 32 }
     requires entries { entries + length segment.entries < 2 ^ 64 }
-    ensures { IfOk result (Ends lines entries segment) }
+    ensures { IfOk result (EndsSegment lines entries segment) }
 {
     let before = lines_before(&segment);
     let number = segment.entries.len();
@@ -198,7 +198,7 @@ pub(crate) fn take_segment(
     reached: Reached,
     segment: Counted,
 ) -> Result<Check, NoMemory>
-    requires kept { IsKept segment }
+    requires kept { IsKeptSegment segment }
     requires former { IsFormer reached.former }
     requires few { reached.lines + length (lines_of segment) < 2 ^ 32 }
     requires entries { reached.entries + length segment.entries < 2 ^ 64 }

@@ -78,12 +78,12 @@ IsCommanded b c (Err Admin.NoMemory) =
     IsDoable b.opening (past_of b) c × (next_number b + tickets_out b + 1 ≤ most_numbers)
 
 -- The judgement of the rows on a command, before there is a number for it.
-abbrev pub IsJudged : (n : ℕ) → List Standing → Standing → Command → FullMark → Result ℕ (AdminError FullMark) → Type 0
-IsJudged n rows d c mark (Ok common) =
+abbrev pub IsJudgedCommand : (n : ℕ) → List Standing → Standing → Command → FullMark → Result ℕ (AdminError FullMark) → Type 0
+IsJudgedCommand n rows d c mark (Ok common) =
     IsKnown n c × HasValues c × (common_commanded c rows d < 2 ^ 32) × (common ≡ common_commanded c rows d)
-IsJudged n rows d c mark (Err Admin.UnknownMember) = ¬ IsKnown n c
-IsJudged n rows d c mark (Err Admin.BadValue) = IsKnown n c × ¬ HasValues c
-IsJudged n rows d c mark (Err (Admin.TooWide wide)) =
+IsJudgedCommand n rows d c mark (Err Admin.UnknownMember) = ¬ IsKnown n c
+IsJudgedCommand n rows d c mark (Err Admin.BadValue) = IsKnown n c × ¬ HasValues c
+IsJudgedCommand n rows d c mark (Err (Admin.TooWide wide)) =
     IsKnown n c × HasValues c × (2 ^ 32 ≤ common_commanded c rows d) × (wide ≡ mark)
-IsJudged n rows d c mark (Err (Admin.Full full)) = ⊥
-IsJudged n rows d c mark (Err Admin.NoMemory) = ⊥
+IsJudgedCommand n rows d c mark (Err (Admin.Full full)) = ⊥
+IsJudgedCommand n rows d c mark (Err Admin.NoMemory) = ⊥

@@ -6,7 +6,7 @@ ghost use Rattle.lb_model.specs.Journal.{each};
 ghost use Rattle.lb_model.specs.Legal.{HasValues, IsDistance, IsFactor, LeadsElsewhere, RedirectExists};
 ghost use Rattle.lb_model.specs.Settings.{redirect_after, setting_after};
 ghost use Rattle.lb_book.specs.Commanded.{
-  IsJudged,
+  IsJudgedCommand,
   IsKnown,
   common_commanded,
   commanded_row,
@@ -130,7 +130,7 @@ pub(crate) fn judge(
 ) -> Result<u32, AdminError<FullMark>>
     requires few { length rows.now ≤ MAX_MEMBERS }
     requires some { (m : ℕ) (d : Standing) → m < length rows.now → 0 < (slice_index_or rows.now m d).factor }
-    ensures { (d : Standing) → IsJudged (length rows.now) rows.now d command.now mark result }
+    ensures { (d : Standing) → IsJudgedCommand (length rows.now) rows.now d command.now mark result }
 {
     if !is_known(rows.len(), command) {
         return Err(AdminError::UnknownMember);

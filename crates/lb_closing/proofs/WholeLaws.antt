@@ -11,7 +11,7 @@ use Rattle.lb_model.specs.declared.opening.Opening.{Opening}
 use Rattle.lb_book.specs.Journal.{Journal}
 use Rattle.lb_shared.specs.Histories.{AreDistinct, IsClosed, SeatNote, entries_of, own_count, own_in}
 use Rattle.lb_shared.specs.Sites.{added_in}
-use Rattle.lb_closing.specs.OneHistory.{IsWhole}
+use Rattle.lb_closing.specs.OneHistory.{IsOneHistory}
 
 -- How many items have this number, and how many have one of these.
 abbrev with_number : {A : Type 0} → (A → ℕ) → (n : ℕ) → List A → ℕ
@@ -178,7 +178,7 @@ counted_by log (s ∷ seats) own =
 
 -- No others.
 pub whole_by : (starts : List Opening) (seats : List SeatNote) (books : List Journal) → IsClosed starts seats books
-    → sum_by (λ s. own_count s) seats ≡ added_in books → IsWhole starts seats books
+    → sum_by (λ s. own_count s) seats ≡ added_in books → IsOneHistory starts seats books
 whole_by starts seats books closed counted =
     let all : added_in books ≡ length closed.log =
     added_by closed.log 0 books (λ lb b at. closed.history.added lb b at ∙ ap (λ (n : ℕ). length (entries_of n closed.log)) (sym (none_plus lb)))

@@ -9,7 +9,7 @@ use Rattle.lb_closing.specs.Closings.{Differs, DiscordNote}
 
 -- One history of the Site made its Books what they are. Of each desk with one of these seats it has just the entries that the
 -- desk has seen as its own, and it has no entry of anybody else.
-pub record IsWhole (starts : List Opening) (seats : List SeatNote) (books : List Journal) : Type 0 where
+pub record IsOneHistory (starts : List Opening) (seats : List SeatNote) (books : List Journal) : Type 0 where
   pub closed : IsClosed starts seats books
   pub no_other : All (λ x. Contains (map (λ s. s.number) seats) x.0) closed.log
 
@@ -17,4 +17,4 @@ pub record IsWhole (starts : List Opening) (seats : List SeatNote) (books : List
 -- of nobody else.
 pub record DiffersWhole (starts : List Opening) (seats : List SeatNote) (sizes firsts : List ℕ) (entries : ℕ) (receipts : List (ℕ × Entry)) (d : DiscordNote) : Type 0 where
   pub differs : Differs sizes firsts entries receipts d
-  pub whole : IsWhole starts seats differs.books
+  pub whole : IsOneHistory starts seats differs.books

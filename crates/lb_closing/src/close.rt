@@ -8,7 +8,7 @@ ghost use Rattle.lb_shared.specs.Locks.{lock_of};
 ghost use Rattle.lb_shared.specs.Sites.{AreSited, added_in};
 ghost use Rattle.lb_closing.specs.CloseErrors.{IsCloseError};
 ghost use Rattle.lb_closing.specs.Closings.{AreUncut, Differs, IsDiscord, kept_from, noted};
-ghost use Rattle.lb_closing.specs.OneHistory.{DiffersWhole, IsWhole};
+ghost use Rattle.lb_closing.specs.OneHistory.{DiffersWhole, IsOneHistory};
 ghost use Rattle.lb_model.specs.declared.config.TheConstants.{MAX_BALANCERS};
 
 use crate::compare::{Noted, first_difference, put_in_order};
@@ -108,7 +108,7 @@ pub fn close_own_desks<'r, L: SiteName, S: Drop, R: Wait>(
 
     // Of each desk the one history has just the entries that the desk has seen as its own, and none of anybody else.
     ensures history { IfOk result (λ c. IsClosed L.starts (map (λ l. l.seat) leaving) c.books) }
-    ensures whole { IfOk result (λ c. IsWhole L.starts (map (λ l. l.seat) leaving) c.books) }
+    ensures whole { IfOk result (λ c. IsOneHistory L.starts (map (λ l. l.seat) leaving) c.books) }
     ensures counted { IfOk result (λ c. c.entries ≡ sum_by (λ l. l.share.amount) leaving) }
     ensures shelves { IfOk result (λ c. c.shelves ≡ map (λ l. l.shelf) leaving) }
 

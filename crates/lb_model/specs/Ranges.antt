@@ -39,17 +39,17 @@ pub record IsPeriod (seconds : ℕ) : Type 0 where
   pub below : seconds ≤ most_seconds
 
 -- Member i is the first one with a value out of its range.
-pub record IsFirstBad (ms : List MemberConfig) (i : ℕ) : Type 0 where
+pub record IsFirstBadMember (ms : List MemberConfig) (i : ℕ) : Type 0 where
   pub within : i < length ms
   pub bad : (m : MemberConfig) → slice_get ms i ≡ Some m → ¬ IsInRange (length ms) i m
   pub first : (j : ℕ) (m : MemberConfig) → j < i → slice_get ms j ≡ Some m → IsInRange (length ms) j m
 
 -- When a configuration is refused, each refusal after those before it.
-abbrev pub IsRefused : (maintain recover : ℕ) → List MemberConfig → ConfigError → Type 0
-IsRefused maintain recover ms Refusal.NoMembers = length ms ≡ 0
-IsRefused maintain recover ms Refusal.TooMany = most_members < length ms
-IsRefused maintain recover ms (Refusal.BadMember index) = IsCount (length ms) × IsFirstBad ms index
-IsRefused maintain recover ms Refusal.BadTime =
+abbrev pub IsRefusedConfig : (maintain recover : ℕ) → List MemberConfig → ConfigError → Type 0
+IsRefusedConfig maintain recover ms Refusal.NoMembers = length ms ≡ 0
+IsRefusedConfig maintain recover ms Refusal.TooMany = most_members < length ms
+IsRefusedConfig maintain recover ms (Refusal.BadMember index) = IsCount (length ms) × IsFirstBadMember ms index
+IsRefusedConfig maintain recover ms Refusal.BadTime =
     IsCount (length ms) × AreInRange ms × ¬ (IsPeriod maintain × IsPeriod recover)
-IsRefused maintain recover ms Refusal.TooWide =
+IsRefusedConfig maintain recover ms Refusal.TooWide =
     IsCount (length ms) × AreInRange ms × IsPeriod maintain × IsPeriod recover × (2 ^ 32 ≤ multiple_of (factors_in ms))

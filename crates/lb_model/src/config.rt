@@ -1,6 +1,6 @@
 //! A balancer's configuration, and its ranges.
 ghost use Rattle.std.specs.Prelude.{◌≡◌, ℕ, ◌<◌, ◌≤◌, ◌^◌, ◌↔◌, length, take, map, slice_set, IfOk, IfErr, IsTrue, MatchOption};
-ghost use Rattle.lb_model.specs.Ranges.{AreInRange, IsCount, IsFirstBad, IsInRange, IsPeriod, IsRefused, factors_in, redirects_within};
+ghost use Rattle.lb_model.specs.Ranges.{AreInRange, IsCount, IsFirstBadMember, IsInRange, IsPeriod, IsRefusedConfig, factors_in, redirects_within};
 ghost use Rattle.lb_model.specs.Multiple.{multiple_of};
 ghost use Rattle.std.specs.Option.{SomeIff};
 
@@ -74,7 +74,7 @@ fn are_periods(maintain: u64, recover: u64) -> bool
 // The first member with a value out of its range.
 fn first_bad(members: &[MemberConfig]) -> Option<u32>
     requires { IsCount (length members.now) }
-    ensures value { MatchOption result (AreInRange members.now) (IsFirstBad members.now) }
+    ensures value { MatchOption result (AreInRange members.now) (IsFirstBadMember members.now) }
 {
     let count = members.len() as u32;
     for (i, member) in members.iter().enumerate() {
@@ -132,7 +132,7 @@ impl LbConfig {
         ensures members { IfOk result (λ c. c.members ≡ members) }
 
         // Each refusal holds where it is given, and none of them of a configuration.
-        ensures refused { IfErr result (IsRefused maintain recover members) }
+        ensures refused { IfErr result (IsRefusedConfig maintain recover members) }
     {
         if members.is_empty() {
             return Err(ConfigError::NoMembers);

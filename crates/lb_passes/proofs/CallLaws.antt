@@ -24,7 +24,7 @@ use Rattle.lb_book.proofs.ToldLaws.{grown-nil}
 use Rattle.lb_book.specs.Histories.{has_made}
 use Rattle.lb_passes.specs.declared.pass_view.PassView.{PassView}
 use Rattle.lb_book.proofs.HistoryLaws.{own_is_out, whole_of, whole_out}
-use Rattle.lb_passes.specs.Holds.{Commands, Refuses, TakesTurn, gained_in, own_in}
+use Rattle.lb_passes.specs.Holds.{Commands, RefusesInTurn, TakesTurn, gained_in, own_in}
 use Rattle.lb_passes.proofs.AskLaws.{Gained}
 use Rattle.lb_passes.proofs.GainLaws.{IsTaken, adds_of, command_gives, due_gives}
 
@@ -84,7 +84,7 @@ commands_of v w b new before now on command (Err e) turn ok named = tt
 pub refuses_of : (v w : PassView) (b new : Journal) (before now : List Receipt) (on : Occasion) (command : Command) (r : Result (Unit {0}) (AdminError FullMark))
     → TakesTurn v w b (gained_in before now)
     → IfErr r (λ e. BookGainsDue b new before now on.lb on.session on.at (IsCommandRefusal (λ mark. mark) on.at command e b))
-    → IfErr r (Refuses v w before now on command)
+    → IfErr r (RefusesInTurn v w before now on command)
 refuses_of v w b new before now on command (Ok done) turn err = tt
 refuses_of v w b new before now on command (Err e) turn err = record { book = b; new = new; turn = turn; gains = err }
 

@@ -9,7 +9,7 @@ use Rattle.lb_model.specs.declared.journal.Entry.{Entry}
 use Rattle.lb_book.specs.Journal.{Journal}
 use Rattle.lb_book.specs.Histories.{AreOf, BeginsWith, IsHistory, own_of}
 use Rattle.lb_passes.specs.Plays.{Counted, Left, grown_owns, last_in, turn_of, turning}
-use Rattle.lb_passes.specs.Turns.{Carries, IsBookOf, IsLive, IsPassTable, IsServed, IsWaiting, Queue, SlotFits, TurnFits, ViewFits}
+use Rattle.lb_passes.specs.Turns.{Carries, IsBookOf, IsLive, IsPassTable, HasTurn, IsWaiting, Queue, SlotFits, TurnFits, ViewFits}
 use Rattle.lb_passes.specs.declared.pass_view.Origin.{Origin}
 use Rattle.lb_passes.specs.declared.pass_view.PassView.{PassView}
 use Rattle.lb_passes.specs.declared.pass_view.Turn.{Turn}
@@ -38,7 +38,7 @@ counts o slots id v c es k is_out owns many are history s h size at low =
     let w : PassView = turning v v.turn (v.seen ++ new) (grown_owns new v.owns) in
     let log : List Entry = h.log ++ new in
     let here : ViewFits o q h.given h.log v = h.fits id v at in
-    let mine : IsServed q h.log v t = subst (λ (x : Turn). TurnFits q h.log v x) is_out here.turn in
+    let mine : HasTurn q h.log v t = subst (λ (x : Turn). TurnFits q h.log v x) is_out here.turn in
     let carries : Carries v.owns n es = subst (λ (xs : List (ℕ × List Entry)). Carries xs n es) (sym owns) (carries_one n es) in
     let live : v.origin ≡ o = here.origin (subst (λ (x : Turn). IsLive x) (sym is_out) tt) in
     let grown : grown_owns new v.owns ≡ (n, es ++ new) ∷ [] = ap (λ (xs : List (ℕ × List Entry)). grown_owns new xs) owns in
@@ -144,7 +144,7 @@ leaves o slots id v b c es is_out owns stands s h size at low =
     let w : PassView = turning v Idle v.seen v.owns in
     let q' : Queue = record { out = false; served = q.served + 1; waiting = drop 1 q.waiting } in
     let here : ViewFits o q h.given h.log v = h.fits id v at in
-    let mine : IsServed q h.log v t = subst (λ (x : Turn). TurnFits q h.log v x) is_out here.turn in
+    let mine : HasTurn q h.log v t = subst (λ (x : Turn). TurnFits q h.log v x) is_out here.turn in
     let carries : Carries v.owns n es = subst (λ (xs : List (ℕ × List Entry)). Carries xs n es) (sym owns) (carries_one n es) in
     let live : v.origin ≡ o = here.origin (subst (λ (x : Turn). IsLive x) (sym is_out) tt) in
     let some_wait : 0 < length q.waiting = at_within q.waiting 0 n mine.queued in

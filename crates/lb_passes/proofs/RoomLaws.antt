@@ -40,7 +40,7 @@ use Rattle.lb_book.proofs.HistoryLaws.{IsWhole, whole_next, whole_of, whole_tick
 use Rattle.lb_passes.specs.Calls.{CallChooses, CallCommands, CallDenies, CallRefuses}
 use Rattle.lb_passes.specs.Holds.{TakesTurn, entries_in, gained_in}
 use Rattle.lb_passes.specs.PassDesks.{view_of}
-use Rattle.lb_passes.specs.Rooms.{AskFits, CommandFits, HadRoom, HadRoomFor, HasRoom, LacksRoom, next_after, out_after}
+use Rattle.lb_passes.specs.Rooms.{AskFits, CommandFits, HadRoom, HadRoomFor, HasRoomAfter, LacksRoom, next_after, out_after}
 use Rattle.lb_passes.specs.declared.desk_lists.DeskLists.{DeskLists}
 use Rattle.lb_passes.specs.declared.pass.Pass.{Pass}
 use Rattle.lb_passes.proofs.GainLaws.{gained_is}
@@ -75,7 +75,7 @@ ends_with v w b r r' due last turn receipts =
           (newest_next v.origin.opening (turn.log ++ entries_in due) last.entry legal);
     }
 
-one_left : (more : ℕ) (w : PassView) (last : Entry) (ends : EndsWith w last) → taken_by last.call ≡ more → HasRoom more w.origin.opening ends.before
+one_left : (more : ℕ) (w : PassView) (last : Entry) (ends : EndsWith w last) → taken_by last.call ≡ more → HasRoomAfter more w.origin.opening ends.before
 one_left more w last ends takes =
     let number : last.seq ≡ next_of w.origin.opening (reverse ends.before) = ends.next.number in
     let left : last.seq + length (out w.origin.opening (reverse ends.before)) + taken_by last.call ≤ 2 ^ 48 = ends.next.room in

@@ -123,7 +123,7 @@ pub record Commands (v w : PassView) (before now : List Receipt) (on : Occasion)
   pub named : IsKnown (members book.opening) command × HasValues command
 
 -- A turn that refused a command, or the Maintain before it.
-pub record Refuses (v w : PassView) (before now : List Receipt) (on : Occasion) (command : Command) (error : AdminError FullMark) : Type 0 where
+pub record RefusesInTurn (v w : PassView) (before now : List Receipt) (on : Occasion) (command : Command) (error : AdminError FullMark) : Type 0 where
   pub book : Journal
   pub new : Journal
   pub turn : TakesTurn v w book (gained_in before now)

@@ -24,8 +24,8 @@ out_after o h = length (out o (reverse h))
 
 -- After h these many numbers are left, beside one for the Return of each ticket that is out; or they aren't, and the mark tells
 -- the numbers.
-abbrev pub HasRoom : (more : ℕ) → Opening → (h : List Entry) → Type 0
-HasRoom more o h = next_after o h + out_after o h + more ≤ 2 ^ 48
+abbrev pub HasRoomAfter : (more : ℕ) → Opening → (h : List Entry) → Type 0
+HasRoomAfter more o h = next_after o h + out_after o h + more ≤ 2 ^ 48
 
 abbrev pub LacksRoom : (more : ℕ) → Opening → (h : List Entry) → FullMark → Type 0
 LacksRoom more o h mark = (2 ^ 48 < next_after o h + out_after o h + more) × IsMarked (next_after o h) (out_after o h) mark
@@ -35,7 +35,7 @@ pub record HadRoom (more : ℕ) (v : PassView) : Type 0 where
   pub before : List Entry
   pub newest : Entry
   pub seen : v.seen ≡ before ++ newest ∷ []
-  pub room : HasRoom more v.origin.opening before
+  pub room : HasRoomAfter more v.origin.opening before
 
 -- An ask needs two numbers, its own and that of its ticket's Return: it is answered only where all that was seen before it leaves
 -- them, and Full only where all that is then seen doesn't. Want of memory needs no cause, here and below.
@@ -50,7 +50,7 @@ pub record HadRoomFor (command : Command) (v : PassView) : Type 0 where
   pub before : List Entry
   pub newest : Entry
   pub seen : v.seen ≡ before ++ newest ∷ []
-  pub room : HasRoom 1 v.origin.opening before
+  pub room : HasRoomAfter 1 v.origin.opening before
   pub narrow : common_after v.origin.opening (reverse before) (call.Admin command) < 2 ^ 32
 
 -- A command is refused as Full where its number isn't left, and as too wide where that multiple would reach its limit.

@@ -41,7 +41,7 @@ pub record IsWaiting (q : Queue) (v : PassView) (t : ℕ) : Type 0 where
   pub carried : Carries v.owns v.number own
 
 -- A caller that has the Book is the first one, and has seen all.
-pub record IsServed (q : Queue) (log : List Entry) (v : PassView) (t : ℕ) : Type 0 where
+pub record HasTurn (q : Queue) (log : List Entry) (v : PassView) (t : ℕ) : Type 0 where
   pub turn : t ≡ q.served
   pub queued : get_elem? q.waiting 0 ≡ some v.number
   pub taken : q.out ≡ true
@@ -52,7 +52,7 @@ pub record IsServed (q : Queue) (log : List Entry) (v : PassView) (t : ℕ) : Ty
 abbrev pub TurnFits : Queue → (log : List Entry) → PassView → Turn → Type 0
 TurnFits q log v Idle = (n k : ℕ) (es : List Entry) → Carries v.owns n es → get_elem? q.waiting k ≡ some n → ⊥
 TurnFits q log v (Waits t) = IsWaiting q v t
-TurnFits q log v (Out t) = IsServed q log v t
+TurnFits q log v (Out t) = HasTurn q log v t
 TurnFits q log v Spent = (n : ℕ) (es : List Entry) → Carries v.owns n es → ⊥
 
 -- The sound Book b has this whole history, and counted each of its entries once. One that is never cut has all of them.

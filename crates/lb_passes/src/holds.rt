@@ -3,7 +3,7 @@ ghost use Rattle.std.specs.Prelude.{◌≡◌, ◌+◌, ◌<◌, ◌≤◌, true
 ghost use Rattle.lb_model.specs.Tickets.{is_returned};
 ghost use Rattle.lb_model.specs.declared.journal.TheConstants.{MOST_BYTES};
 ghost use Rattle.lb_book.specs.Histories.{has_made};
-ghost use Rattle.lb_passes.specs.Holds.{Commands, Denies, Looks, Refuses, Returns, Selects, own_in};
+ghost use Rattle.lb_passes.specs.Holds.{Commands, Denies, Looks, RefusesInTurn, Returns, Selects, own_in};
 
 use crate::pass::Pass;
 use crate::pass_book::PassBook;
@@ -101,7 +101,7 @@ pub(crate) fn command_in<R: Wait>(
     ensures number { pass.new.number ≡ pass.old.number }
     ensures room { vec_capacity receipts.old ≤ vec_capacity receipts.new }
     ensures ok { OnOk result (Commands pass.old.seat.me.0 pass.new.seat.me.0 receipts.old.items receipts.new.items on command.now) }
-    ensures err { IfErr result (Refuses pass.old.seat.me.0 pass.new.seat.me.0 receipts.old.items receipts.new.items on command.now) }
+    ensures err { IfErr result (RefusesInTurn pass.old.seat.me.0 pass.new.seat.me.0 receipts.old.items receipts.new.items on command.now) }
 {
     take_turn(rt, book, &mut pass.seat);
     let had = receipts.len();

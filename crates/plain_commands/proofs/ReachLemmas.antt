@@ -9,7 +9,7 @@ use Rattle.jk_io.specs.declared.failures.IoError.TheVariants as Io
 use Rattle.jk_io.specs.declared.reaching.Begun.{Begun}
 use Rattle.jk_io.specs.declared.reaching.Talk.{Talk}
 use Rattle.plain_commands.specs.DryLinks.{AreTalksOver}
-use Rattle.plain_commands.specs.DryReaches.{IsAt, IsOver}
+use Rattle.plain_commands.specs.DryReaches.{IsBetweenTalks, IsOverLinks}
 
 -- the talks so far say nothing of a reach but its links
 pub over_same : (first : List MemLinkState) (past : List Talk) (a b : MemReachState) → AreTalksOver first past a
@@ -31,8 +31,8 @@ over_same first (t ∷ past) a b (before, over, talk) l k = (
 )
 
 -- bytes moved from what is to come to what was read
-pub moved : (before old new : MemReachState) (o : Option Begun) → IsAt before old o → StaysInTalk old new → (taken : List ℕ)
-    → old.running.link.incoming ≡ taken ++ new.running.link.incoming → new.book.received ≡ old.book.received ++ taken → IsAt before new o
+pub moved : (before old new : MemReachState) (o : Option Begun) → IsBetweenTalks before old o → StaysInTalk old new → (taken : List ℕ)
+    → old.running.link.incoming ≡ taken ++ new.running.link.incoming → new.book.received ≡ old.book.received ++ taken → IsBetweenTalks before new o
 moved before old new None (l, k) s taken gave got = (s.links.0 ∙ l, s.links.1 ∙ k)
 moved before old new (Some b) at s taken gave got = record {
   begun = at.begun;
@@ -47,8 +47,8 @@ moved before old new (Some b) at s taken gave got = record {
 }
 
 -- no byte moved
-pub stood : (before old new : MemReachState) (o : Option Begun) → IsAt before old o → StaysInTalk old new
-    → new.running.link.incoming ≡ old.running.link.incoming → new.book.received ≡ old.book.received → IsAt before new o
+pub stood : (before old new : MemReachState) (o : Option Begun) → IsBetweenTalks before old o → StaysInTalk old new
+    → new.running.link.incoming ≡ old.running.link.incoming → new.book.received ≡ old.book.received → IsBetweenTalks before new o
 stood before old new None (l, k) s same got = (s.links.0 ∙ l, s.links.1 ∙ k)
 stood before old new (Some b) at s same got = record {
   begun = at.begun;
@@ -62,30 +62,30 @@ stood before old new (Some b) at s same got = record {
 }
 
 -- a call within a talk, whatever it moved
-pub within : (first : List MemLinkState) (old new : MemReachState) → IsOver first old → StaysInTalk old new
+pub within : (first : List MemLinkState) (old new : MemReachState) → IsOverLinks first old → StaysInTalk old new
     → new.book.begun ≡ old.book.begun → new.book.talks ≡ old.book.talks
-    → ((before : MemReachState) → IsAt before old old.book.begun → IsAt before new old.book.begun) → IsOver first new
+    → ((before : MemReachState) → IsBetweenTalks before old old.book.begun → IsBetweenTalks before new old.book.begun) → IsOverLinks first new
 within first old new i s begun talks here = record {
   quiet = s.rest.1 ∙ i.quiet;
   past = i.past;
   talks = talks ∙ i.talks;
   before = i.before;
   over = i.over;
-  here = subst (IsAt i.before new) (sym begun) (here i.before i.here);
+  here = subst (IsBetweenTalks i.before new) (sym begun) (here i.before i.here);
 }
 
-pub reads : (first : List MemLinkState) (old new : MemReachState) (buf : List ℕ) (result : Result ℕ IoError) → IsOver first old → StaysInTalk old new
+pub reads : (first : List MemLinkState) (old new : MemReachState) (buf : List ℕ) (result : Result ℕ IoError) → IsOverLinks first old → StaysInTalk old new
     → new.book.begun ≡ old.book.begun → new.book.talks ≡ old.book.talks
     → IfOk result (λ n. old.running.link.incoming ≡ take n buf ++ new.running.link.incoming)
     → IfOk result (λ n. new.book.received ≡ old.book.received ++ take n buf)
-    → OnErr result ((new.running.link.incoming ≡ old.running.link.incoming) × (new.book.received ≡ old.book.received)) → IsOver first new
+    → OnErr result ((new.running.link.incoming ≡ old.running.link.incoming) × (new.book.received ≡ old.book.received)) → IsOverLinks first new
 reads first old new buf (Ok n) i s begun talks gave got err =
     within first old new i s begun talks (λ before at. moved before old new old.book.begun at s (take n buf) gave got)
 reads first old new buf (Err e) i s begun talks gave got (same, received) =
     within first old new i s begun talks (λ before at. stood before old new old.book.begun at s same received)
 
 -- where no talk runs, the links are those that the last one left
-pub idle_at : (before now : MemReachState) (o : Option Begun) → IsAt before now o → is_some o ≡ false → (now.links ≡ before.links) × (now.kept ≡ before.kept)
+pub idle_at : (before now : MemReachState) (o : Option Begun) → IsBetweenTalks before now o → is_some o ≡ false → (now.links ≡ before.links) × (now.kept ≡ before.kept)
 idle_at before now None at none = at
 idle_at before now (Some b) at none = absurd (cc)
 
@@ -94,23 +94,23 @@ none_of None none = refl
 none_of (Some b) none = absurd (cc)
 
 -- so are these talks over the links as they stand
-pub over_now : (first : List MemLinkState) (old : MemReachState) → (i : IsOver first old) → is_some old.book.begun ≡ false → AreTalksOver first i.past old
+pub over_now : (first : List MemLinkState) (old : MemReachState) → (i : IsOverLinks first old) → is_some old.book.begun ≡ false → AreTalksOver first i.past old
 over_now first old i none =
     let at = idle_at i.before old old.book.begun i.here none in
     over_same first i.past i.before old i.over at.0 at.1
 
 -- a begin that gave a link
 pub begun : (first : List MemLinkState) (old new : MemReachState) (lb member : ℕ) (host : List ℕ) (port : ℕ) (fresh dialled : Bool)
-    → IsOver first old → is_some old.book.begun ≡ false → GivesLink lb member fresh dialled old new
+    → IsOverLinks first old → is_some old.book.begun ≡ false → GivesLink lb member fresh dialled old new
     → new.book.begun ≡ Some (begun_with lb member host port fresh dialled (Some new.running.link.incoming))
-    → new.book.received ≡ [] → new.book.talks ≡ old.book.talks → new.failing ≡ old.failing → IsOver first new
+    → new.book.received ≡ [] → new.book.talks ≡ old.book.talks → new.failing ≡ old.failing → IsOverLinks first new
 begun first old new lb member host port fresh dialled i none gives is received talks failing = record {
   quiet = failing ∙ i.quiet;
   past = i.past;
   talks = talks ∙ i.talks;
   before = old;
   over = over_now first old i none;
-  here = subst (IsAt old new) (sym is) (record {
+  here = subst (IsBetweenTalks old new) (sym is) (record {
     begun = new;
     gives = gives;
     came = refl;
@@ -122,23 +122,23 @@ begun first old new lb member host port fresh dialled i none gives is received t
 }
 
 -- a begin that gave none
-pub unbegun : (first : List MemLinkState) (old new : MemReachState) → IsOver first old → is_some old.book.begun ≡ false
+pub unbegun : (first : List MemLinkState) (old new : MemReachState) → IsOverLinks first old → is_some old.book.begun ≡ false
     → is_some new.book.begun ≡ false → (new.links ≡ old.links) × (new.kept ≡ old.kept)
-    → new.book.talks ≡ old.book.talks → new.failing ≡ old.failing → IsOver first new
+    → new.book.talks ≡ old.book.talks → new.failing ≡ old.failing → IsOverLinks first new
 unbegun first old new i none none' (links, kept) talks failing = record {
   quiet = failing ∙ i.quiet;
   past = i.past;
   talks = talks ∙ i.talks;
   before = old;
   over = over_now first old i none;
-  here = subst (IsAt old new) (sym (none_of new.book.begun none')) (links, kept);
+  here = subst (IsBetweenTalks old new) (sym (none_of new.book.begun none')) (links, kept);
 }
 
 pub none_in : (x : ℕ) → Contains [] x → ⊥
 none_in x (k, below, is) = absurd (omega (arith, below))
 
 pub begins : (first : List MemLinkState) (old new : MemReachState) (lb member : ℕ) (host : List ℕ) (port : ℕ) (fresh : Bool) (result : Result Bool IoError)
-    → IsOver first old → is_some old.book.begun ≡ false → is_some new.book.begun ≡ is_ok result
+    → IsOverLinks first old → is_some old.book.begun ≡ false → is_some new.book.begun ≡ is_ok result
     → IfOk result (λ dialled. new.book.begun ≡ Some (begun_with lb member host port fresh dialled (Some new.running.link.incoming)))
     → new.book.received ≡ []
     → IfOk result (λ dialled. GivesLink lb member fresh dialled old new)
@@ -146,7 +146,7 @@ pub begins : (first : List MemLinkState) (old new : MemReachState) (lb member : 
     → OnOk result (new.book.talks ≡ old.book.talks)
     → (IsErrOf result Io.NoMemory → new.book.talks ≡ old.book.talks)
     → new.failing ≡ old.failing
-    → (IsErrOf result Io.Failed → Contains old.failing old.calls) → IsOver first new
+    → (IsErrOf result Io.Failed → Contains old.failing old.calls) → IsOverLinks first new
 begins first old new lb member host port fresh (Ok dialled) i none runs is received gives links talks wanted failing planned =
     begun first old new lb member host port fresh dialled i none gives is received talks failing
 begins first old new lb member host port fresh (Err Io.NoMemory) i none runs is received gives links talks wanted failing planned =
@@ -161,10 +161,10 @@ pub kept_by : (keep : Bool) (old new : MemReachState) (begun : MemReachState) �
 kept_by true old new begun same kept closed = kept refl ∙ ap (λ links. links ++ old.running ∷ []) same
 kept_by false old new begun same kept closed = closed refl ∙ same
 
-pub ended : (first : List MemLinkState) (old new : MemReachState) (keep : Bool) (b : Begun) → (i : IsOver first old) → IsAt i.before old (Some b)
+pub ended : (first : List MemLinkState) (old new : MemReachState) (keep : Bool) (b : Begun) → (i : IsOverLinks first old) → IsBetweenTalks i.before old (Some b)
     → new.book.begun ≡ None → new.book.talks ≡ old.book.talks ++ talk_of b old.book.sent old.book.received keep ∷ []
     → (keep ≡ true → new.kept ≡ old.kept ++ old.running ∷ []) → (keep ≡ false → new.kept ≡ old.kept)
-    → new.links ≡ old.links → new.failing ≡ old.failing → IsOver first new
+    → new.links ≡ old.links → new.failing ≡ old.failing → IsOverLinks first new
 ended first old new keep b i at none talks kept closed links failing = record {
   quiet = failing ∙ i.quiet;
   past = talk_of b old.book.sent old.book.received keep ∷ i.past;
@@ -185,13 +185,13 @@ ended first old new keep b i at none talks kept closed links failing = record {
       kept = kept_by keep old new at.begun at.kept kept closed;
     },
   );
-  here = subst (IsAt new new) (sym none) (refl, refl);
+  here = subst (IsBetweenTalks new new) (sym none) (refl, refl);
 }
 
-pub finishes : (first : List MemLinkState) (old new : MemReachState) (keep : Bool) (o : Option Begun) → old.book.begun ≡ o → is_some o ≡ true → IsOver first old
+pub finishes : (first : List MemLinkState) (old new : MemReachState) (keep : Bool) (o : Option Begun) → old.book.begun ≡ o → is_some o ≡ true → IsOverLinks first old
     → new.book.begun ≡ None → IfSome o (λ b. new.book.talks ≡ old.book.talks ++ talk_of b old.book.sent old.book.received keep ∷ [])
     → (keep ≡ true → new.kept ≡ old.kept ++ old.running ∷ []) → (keep ≡ false → new.kept ≡ old.kept)
-    → new.links ≡ old.links → new.failing ≡ old.failing → IsOver first new
+    → new.links ≡ old.links → new.failing ≡ old.failing → IsOverLinks first new
 finishes first old new keep (Some b) is runs i none talks kept closed links failing =
-    ended first old new keep b i (subst (IsAt i.before old) is i.here) none talks kept closed links failing
+    ended first old new keep b i (subst (IsBetweenTalks i.before old) is i.here) none talks kept closed links failing
 finishes first old new keep None is runs i none talks kept closed links failing = absurd (cc)

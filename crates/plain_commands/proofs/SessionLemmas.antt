@@ -15,7 +15,7 @@ use Rattle.client_session.specs.Whole.{HoldsOfEach}
 use Rattle.client_session.specs.declared.ending.SessionEnd.{SessionEnd}
 use Rattle.client_session.specs.declared.ending.SessionStop.TheVariants as stop
 use Rattle.client_session.specs.declared.ending.Why.TheVariants as why
-use Rattle.plain_commands.specs.Dry.{IsRun, first_standing}
+use Rattle.plain_commands.specs.Dry.{IsSessionRun, first_standing}
 use Rattle.plain_commands.specs.DryLines.{dry_text}
 
 -- what is known at first of these, where nothing of the client's bytes was read
@@ -41,9 +41,9 @@ pub run_from : (v v' : Visit) (first : ClientStanding) (at_first at_last : List 
     → (at_last way.inbox).reach.talks ≡ Some talks → (at_last way.inbox).client.sent ≡ Some sent
     → ((at_last way.inbox).reach.faults ≡ 0) × ((at_last way.inbox).client.faults ≡ 0)
     → HasParts v (at_first []) (at_last way.inbox) end → (end.stop ≡ stop.Closed why.Idle → ⊥)
-    → HoldsOfEach v end → IsRun v' first talks sent end way.gained
+    → HoldsOfEach v end → IsSessionRun v' first talks sent end way.gained
 run_from v v' first at_first at_last puts end talks sent way same begun talked written calm parts awake each =
-    subst (λ (w : Visit). IsRun w first talks sent end way.gained) same (subst (λ (s : ClientStanding). IsRun v s talks sent end way.gained) begun (record {
+    subst (λ (w : Visit). IsSessionRun w first talks sent end way.gained) same (subst (λ (s : ClientStanding). IsSessionRun v s talks sent end way.gained) begun (record {
       last = at_last way.inbox;
       session = way.session;
       talked = talked;
@@ -56,8 +56,8 @@ run_from v v' first at_first at_last puts end talks sent way same begun talked w
 
 -- its rows are those that were listed
 pub run_listed : (v : Visit) (first : ClientStanding) (talks : List Talk) (sent : List ℕ) (end : SessionEnd) (rows gained : List Served) → rows ≡ gained
-    → IsRun v first talks sent end gained → IsRun v first talks sent end rows
-run_listed v first talks sent end rows gained same run = subst (λ (listed : List Served). IsRun v first talks sent end listed) (sym same) run
+    → IsSessionRun v first talks sent end gained → IsSessionRun v first talks sent end rows
+run_listed v first talks sent end rows gained same run = subst (λ (listed : List Served). IsSessionRun v first talks sent end listed) (sym same) run
 
 -- ---- texts
 

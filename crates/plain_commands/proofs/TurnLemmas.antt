@@ -14,7 +14,7 @@ use Rattle.play_script.specs.declared.printed.ScriptRefusal.{ScriptRefusal}
 use Rattle.play_script.specs.Printed.{refusal_line}
 use Rattle.play_script.specs.Steps.{step_of}
 use Rattle.play_script.proofs.PlayLemmas.{runs_skipped, runs_said, runs_stopped}
-use Rattle.plain_commands.specs.Turns.{IsPlayed, Keeps, Maintains, AnsweredCall, Turns, Taken, Refuses, AppendsRun}
+use Rattle.plain_commands.specs.Turns.{IsPlayed, KeepsScript, Maintains, AnsweredCall, TurnsScript, Taken, RefusesScriptLine, AppendsRun}
 
 -- no more tickets are out than there are entries
 out_within : (o : Opening) (p : List Entry) → o.out ≡ [] → length (out o p) ≤ length p
@@ -39,7 +39,7 @@ module _ (old new : Journal) (at : ℕ) (call : Call) (e : Entry) (played : IsPl
   one_more : length new.entries ≤ length old.entries + 1
   one_more = omega (arith, ap (λ (j : Journal). length j.entries) adds.grown, length-append old.entries (e ∷ []))
 
-  pub added_keeps : Keeps old new
+  pub added_keeps : KeepsScript old new
   added_keeps = record {
     played = record {
       rules = same_rules;
@@ -65,7 +65,7 @@ module _ (old new : Journal) (at : ℕ) (call : Call) (e : Entry) (played : IsPl
 
 module _ (names : List (List ℕ)) (old new : Journal) (at : ℕ) (line : List ℕ) (part : List ℕ) (moment : ℕ) (number : ℕ) (lines : List (List ℕ)) where
   -- a line's part, and then those of the lines after it
-  pub turned : Turns names old at line part moment new → new.opening ≡ old.opening → (behind : List ℕ) (status : ℕ)
+  pub turned : TurnsScript names old at line part moment new → new.opening ≡ old.opening → (behind : List ℕ) (status : ℕ)
       → Runs names new.opening lines (number + 1) moment (past_of new) behind status
       → Runs names old.opening (line ∷ lines) number at (past_of old) (part ++ behind) status
   turned turns opening behind status rest =
@@ -113,7 +113,7 @@ module _ (names : List (List ℕ)) (b0 b : Journal) (n0 a0 number at : ℕ) (ls0
   }
 
   -- the script ends at a refused line
-  pub comes_to_stop : (reason : ScriptRefusal) (before after : List ℕ) → Refuses names line b out before reason → after ≡ before ++ refusal_line number reason
+  pub comes_to_stop : (reason : ScriptRefusal) (before after : List ℕ) → RefusesScriptLine names line b out before reason → after ≡ before ++ refusal_line number reason
       → AppendsRun names b0 n0 a0 ls0 3 out0 after
   comes_to_stop reason before after refuses printed = record {
     text = text ++ refusal_line number reason;
@@ -138,6 +138,6 @@ maintained_asks names old new at out played maintains =
         part = [];
         asks = inr (none.0, refl, ap past_of none.1);
         put = sym (append-nil out);
-        keeps = subst (λ (b : Journal). Keeps old b) (sym none.1) (record { played = played; opening = refl; few = omega arith });
+        keeps = subst (λ (b : Journal). KeepsScript old b) (sym none.1) (record { played = played; opening = refl; few = omega arith });
       }
     ]

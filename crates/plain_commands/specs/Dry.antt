@@ -12,7 +12,7 @@ use Rattle.site_reports.specs.Starts.{AreStarts}
 use Rattle.site_config.specs.declared.config.Config.{Config}
 use Rattle.site_mounts.specs.Lines.{read_text}
 use Rattle.site_mounts.specs.declared.rule.Rule.{Rule}
-use Rattle.site_reports.specs.Reports.{OfWorkers, Refuses}
+use Rattle.site_reports.specs.Reports.{OfWorkers, PrintsRefusal}
 use Rattle.client_session.specs.Parts.{HasParts}
 use Rattle.client_session.specs.Requests.{Visit, undated, visit}
 use Rattle.client_session.specs.Sessions.{IsSession}
@@ -46,7 +46,7 @@ first_standing books request = record {
 -- client has, its end, and a row for each request that was answered. It doesn't end for a client that waits, since in memory none does. The client has the parts of
 -- its requests joined; an own answer has its cause; the client's bytes decide what they can; and what nothing disturbs is
 -- answered with exactly its member's reply.
-pub record IsRun (v : Visit) (first : ClientStanding) (talks : List Talk) (sent : List ℕ) (end : SessionEnd)
+pub record IsSessionRun (v : Visit) (first : ClientStanding) (talks : List Talk) (sent : List ℕ) (end : SessionEnd)
     (rows : List Served) : Type 0 where
   pub last : ClientStanding
   pub session : IsSession v first last rows end
@@ -67,7 +67,7 @@ pub record IsDryRun (c : Config) (rules : List Rule) (request reply : List ℕ) 
     (rows : List Served) : Type 0 where
   pub books : List Journal
   pub started : AreStarts c.lbs 0 0 books
-  pub run : IsRun (dry_visit c rules) (first_standing books request) talks sent end rows
+  pub run : IsSessionRun (dry_visit c rules) (first_standing books request) talks sent end rows
   pub over : AreOverReply reply talks
 
 -- ---- what is printed
@@ -91,7 +91,7 @@ Logs c rules format request reply out =
 
 -- the refusal of a map, or what is printed over its rules
 abbrev pub OfRules : (List Rule → (out : List ℕ) → Type 0) → Result (List Rule) LineRefusal → (out : List ℕ) → (refused : Bool) → Type 0
-OfRules of (Err r) out refused = Refuses (codes "map") r out refused
+OfRules of (Err r) out refused = PrintsRefusal (codes "map") r out refused
 OfRules of (Ok rules) out refused = of rules out × (refused ≡ false)
 
 -- `dry` of a client's bytes and a reply's, over a site's two files

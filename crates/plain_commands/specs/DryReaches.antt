@@ -17,15 +17,15 @@ pub record IsInTalk (before now : MemReachState) (b : Begun) : Type 0 where
   pub kept : now.kept ≡ begun.kept
 
 -- between two talks the links are those that the last one left
-abbrev pub IsAt : (before now : MemReachState) → Option Begun → Type 0
-IsAt before now None = (now.links ≡ before.links) × (now.kept ≡ before.kept)
-IsAt before now (Some b) = IsInTalk before now b
+abbrev pub IsBetweenTalks : (before now : MemReachState) → Option Begun → Type 0
+IsBetweenTalks before now None = (now.links ≡ before.links) × (now.kept ≡ before.kept)
+IsBetweenTalks before now (Some b) = IsInTalk before now b
 
 -- No begin is to fail, and the talks so far were done over these links.
-pub record IsOver (first : List MemLinkState) (now : MemReachState) : Type 0 where
+pub record IsOverLinks (first : List MemLinkState) (now : MemReachState) : Type 0 where
   pub quiet : now.failing ≡ []
   pub past : List Talk
   pub talks : now.book.talks ≡ reverse past
   pub before : MemReachState
   pub over : AreTalksOver first past before
-  pub here : IsAt before now now.book.begun
+  pub here : IsBetweenTalks before now now.book.begun

@@ -4,7 +4,7 @@ use Rattle.jk_cli.specs.declared.order.Order.{Order}
 use Rattle.jk_io.specs.Told.{appended, PutsFront, Rose}
 use Rattle.jk_io.specs.declared.traits.streams.Meanings.{Ghosts}
 use Rattle.jk_io.specs.declared.traits.surroundings.Files.{Ghosts as FilesGhosts}
-use Rattle.plain_commands.specs.Plain.{is_plain, readings, Answers, EndsWith, Plain, Prints, PrintsFront, PrintsOf}
+use Rattle.plain_commands.specs.Plain.{is_plain, readings, AnswersOrder, EndsWith, Plain, Prints, PrintsFront, PrintsOf}
 use Rattle.site_reports.specs.Readings.{CommandOutside, File, Reading}
 use Rattle.plain_commands.specs.declared.log.LogNames.{LogNames}
 use Rattle.plain_commands.specs.declared.play.Ending.{Ending}
@@ -97,10 +97,10 @@ PrintsOfInput incoming readings Of o =
 
 -- The output of a command that reads files alone, and of one that reads the input alone.
 abbrev pub PlainOfFiles : Option (List (List ℕ × List ℕ)) → Order → Output → Type 0
-PlainOfFiles files command o = PrintsOfFiles files (readings command) (Answers command) o
+PlainOfFiles files command o = PrintsOfFiles files (readings command) (AnswersOrder command) o
 
 abbrev pub PlainOfInput : Option (List ℕ) → Order → Output → Type 0
-PlainOfInput incoming command o = PrintsOfInput incoming (readings command) (Answers command) o
+PlainOfInput incoming command o = PrintsOfInput incoming (readings command) (AnswersOrder command) o
 
 -- the files of `log`, in the order in which they are read
 abbrev pub log_readings : LogNames → List Reading

@@ -1,6 +1,6 @@
 -- The output of `follow` for a journal's text, and its status.
 use Rattle.std.specs.Prelude.{◌≡◌, ℕ, Bool, true, false, ◌⊎◌, List, [], ◌∷◌, Option, Some, None, codes}
-use Rattle.journal_verdict.specs.Followed.{IsOpened, IsStopped}
+use Rattle.journal_verdict.specs.Followed.{IsOpened, IsStoppedText}
 use Rattle.journal_verdict.specs.declared.error.FollowError.{FollowError}
 use Rattle.journal_verdict.specs.declared.error.FollowError.TheVariants as wrong
 use Rattle.journal_verdict.specs.declared.view.FollowView.{FollowView}
@@ -34,4 +34,4 @@ RefusesText wrong.NoMemory out status = ⊥
 abbrev pub FollowsText : (text out : List ℕ) → (status : ℕ) → Type 0
 FollowsText text out status =
     ((shown : Option FollowView) × IsOpened text shown × (out ≡ shown_text shown) × (status ≡ 0))
-    ⊎ ((e : FollowError) × IsStopped text e × RefusesText e out status)
+    ⊎ ((e : FollowError) × IsStoppedText text e × RefusesText e out status)

@@ -82,18 +82,18 @@ abbrev pub StopsFront : (answer : List ℕ) → (out : List ℕ) → (status : �
 StopsFront answer out status = (out ≡ []) × (status ≡ (if bytes_eq answer (codes "ended\n") then 0 else 4))
 
 -- The output of a command for the texts that it read, and its status.
-abbrev pub Answers : Order → (texts : List (List ℕ)) → (out : List ℕ) → (status : ℕ) → Type 0
-Answers order.Play (script ∷ []) out status = PlaysScript script out status
-Answers (order.Config w None) (workers ∷ []) out status = Reported (ReportsConfig workers) out status
-Answers (order.Config w (Some m)) (workers ∷ map ∷ []) out status = Reported (ReportsSite workers map) out status
-Answers (order.Match w m verbose) (workers ∷ map ∷ texts) out status = MatchesRead workers map verbose texts out status
-Answers (order.Dry q p None) (request ∷ reply ∷ []) out status =
+abbrev pub AnswersOrder : Order → (texts : List (List ℕ)) → (out : List ℕ) → (status : ℕ) → Type 0
+AnswersOrder order.Play (script ∷ []) out status = PlaysScript script out status
+AnswersOrder (order.Config w None) (workers ∷ []) out status = Reported (ReportsConfig workers) out status
+AnswersOrder (order.Config w (Some m)) (workers ∷ map ∷ []) out status = Reported (ReportsSite workers map) out status
+AnswersOrder (order.Match w m verbose) (workers ∷ map ∷ texts) out status = MatchesRead workers map verbose texts out status
+AnswersOrder (order.Dry q p None) (request ∷ reply ∷ []) out status =
     Reported (ReportsDry request reply default_workers default_map) out status
-Answers (order.Dry q p (Some site)) (request ∷ reply ∷ texts) out status = DryOver request reply texts out status
-Answers order.Check (text ∷ []) out status = ChecksText text out status
-Answers order.Follow (text ∷ []) out status = FollowsText text out status
-Answers (order.Stop path) (answer ∷ []) out status = StopsFront answer out status
-Answers other texts out status = ⊥
+AnswersOrder (order.Dry q p (Some site)) (request ∷ reply ∷ texts) out status = DryOver request reply texts out status
+AnswersOrder order.Check (text ∷ []) out status = ChecksText text out status
+AnswersOrder order.Follow (text ∷ []) out status = FollowsText text out status
+AnswersOrder (order.Stop path) (answer ∷ []) out status = StopsFront answer out status
+AnswersOrder other texts out status = ⊥
 
 -- The output for texts, and its status. All are read whole before one is judged; if one is too long, that alone is
 -- printed.
@@ -111,7 +111,7 @@ PrintsLog outside format readings out status =
 abbrev pub Plain : CommandOutside → Order → (out : List ℕ) → (status : ℕ) → Type 0
 Plain outside (order.Log format request reply workers map) out status =
     PrintsLog outside format (File request ∷ File reply ∷ File workers ∷ File map ∷ []) out status
-Plain outside o out status = PrintsOf outside (readings o) (Answers o) out status
+Plain outside o out status = PrintsOf outside (readings o) (AnswersOrder o) out status
 
 -- Just what the command prints was written.
 pub record Prints (command : Order) (outside : CommandOutside) (sent sent_now : Option (List ℕ)) (status : ℕ) : Type 0 where

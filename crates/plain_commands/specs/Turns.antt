@@ -25,22 +25,22 @@ pub record IsPlayed (b : Journal) : Type 0 where
   pub none_out : b.opening.out ≡ []
 
 -- The Book stays one of the same script, and at most one entry is added.
-pub record Keeps (old new : Journal) : Type 0 where
+pub record KeepsScript (old new : Journal) : Type 0 where
   pub played : IsPlayed new
   pub opening : new.opening ≡ old.opening
   pub few : length new.entries ≤ length old.entries + 1
 
 -- A call without a line of its own was answered.
-pub record Adds (at : ℕ) (asked : Call) (old new : Journal) : Type 0 where
+pub record AddsAnswer (at : ℕ) (asked : Call) (old new : Journal) : Type 0 where
   pub entry : Entry
   pub adds : AddsCall old.opening at (past_of old) asked entry
   pub past : past_of new ≡ entry ∷ past_of old
-  pub keeps : Keeps old new
+  pub keeps : KeepsScript old new
 
 -- A maintenance was done, or none was due and nothing changed.
 abbrev pub Maintains : (at : ℕ) (old new : Journal) → Type 0
 Maintains at old new =
-    Adds at call.Maintain old new
+    AddsAnswer at call.Maintain old new
     ⊎ ((max at (moment_of old.opening (past_of old)) < maintained_of old.opening (past_of old) + old.opening.config.maintain) × (new ≡ old))
 
 -- A call was answered, and printed its part.
@@ -48,18 +48,18 @@ pub record AnsweredCall (names : List (List ℕ)) (at : ℕ) (asked : Call) (old
   pub part : List ℕ
   pub asks : AsksFor names old.opening at (past_of old) asked part (past_of new)
   pub put : after ≡ before ++ part
-  pub keeps : Keeps old new
+  pub keeps : KeepsScript old new
 
 -- A line was answered, and printed its part.
 pub record Said (names : List (List ℕ)) (at : ℕ) (line : Step) (moment : ℕ) (old new : Journal) (before after : List ℕ) : Type 0 where
   pub part : List ℕ
   pub says : Says names old.opening at (past_of old) line part moment (past_of new)
   pub put : after ≡ before ++ part
-  pub keeps : Keeps old new
+  pub keeps : KeepsScript old new
 
 -- A blank line and a comment do nothing, and any other does what it says.
-abbrev pub Turns : List (List ℕ) → Journal → (at : ℕ) → (line part : List ℕ) → (moment : ℕ) → Journal → Type 0
-Turns names old at line part moment new =
+abbrev pub TurnsScript : List (List ℕ) → Journal → (at : ℕ) → (line part : List ℕ) → (moment : ℕ) → Journal → Type 0
+TurnsScript names old at line part moment new =
     MatchBool (is_skipped line)
     ((part ≡ []) × (moment ≡ at) × (past_of new ≡ past_of old))
     (SaysLine names old.opening at (past_of old) (step_of names line) part moment (past_of new))
@@ -67,17 +67,17 @@ Turns names old at line part moment new =
 -- A line was taken, and printed its part.
 pub record Taken (names : List (List ℕ)) (at : ℕ) (line : List ℕ) (moment : ℕ) (old new : Journal) (before after : List ℕ) : Type 0 where
   pub part : List ℕ
-  pub turns : Turns names old at line part moment new
+  pub turns : TurnsScript names old at line part moment new
   pub put : after ≡ before ++ part
-  pub keeps : Keeps old new
+  pub keeps : KeepsScript old new
 
 -- The reason of a stop that isn't want of memory.
-abbrev pub Tells : Stop → (ScriptRefusal → Type 0) → Type 0
-Tells (stop.Refused reason) Says = Says reason
-Tells stop.NoMemory Says = Unit {0}
+abbrev pub TellsStop : Stop → (ScriptRefusal → Type 0) → Type 0
+TellsStop (stop.Refused reason) Says = Says reason
+TellsStop stop.NoMemory Says = Unit {0}
 
 -- A line was refused, and printed nothing.
-pub record Refuses (names : List (List ℕ)) (line : List ℕ) (old : Journal) (before after : List ℕ) (reason : ScriptRefusal) : Type 0 where
+pub record RefusesScriptLine (names : List (List ℕ)) (line : List ℕ) (old : Journal) (before after : List ℕ) (reason : ScriptRefusal) : Type 0 where
   pub full : is_skipped line ≡ false
   pub refused : IsRefusedLine old.opening (past_of old) (step_of names line) reason
   pub put : after ≡ before

@@ -3,7 +3,7 @@ ghost use Rattle.std.specs.Prelude.{◌≡◌, ◌+◌, ◌<◌, ◌≤◌, ◌^
 ghost use Rattle.std.specs.Option.{is_none};
 ghost use Rattle.lb_book.specs.Journal.{past_of};
 ghost use Rattle.play_script.specs.Drafts.{names_in, IsConfigOf};
-ghost use Rattle.play_script.specs.Play.{is_skipped, Stops, Runs, Starts, PlaysScript};
+ghost use Rattle.play_script.specs.Play.{is_skipped, StopsScript, Runs, Starts, PlaysScript};
 ghost use Rattle.play_script.specs.Steps.{step_of};
 ghost use Rattle.plain_commands.specs.Endings.{status_of};
 ghost use Rattle.plain_commands.specs.Turns.{IsPlayed, AppendsRun};
@@ -39,7 +39,7 @@ pub(crate) struct Output {
 
 // What is printed of a script that is refused at this line.
 fn refused(alloc: Global, number: u64, reason: ScriptRefusal) -> Result<Output, NoMemory>
-    ensures { IfOk result (λ o. Stops number reason o.text (status_of o.ending)) }
+    ensures { IfOk result (λ o. StopsScript number reason o.text (status_of o.ending)) }
 {
     let mut text = Bytes::new(alloc);
     put_refusal(&mut text, number, reason)?;

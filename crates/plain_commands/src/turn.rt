@@ -3,7 +3,7 @@ ghost use Rattle.std.specs.Prelude.{◌≡◌, ◌+◌, ◌<◌, ◌≤◌, ◌^
 ghost use Rattle.lb_book.specs.Journal.{past_of};
 ghost use Rattle.play_script.specs.Play.{IsAskRefused, IsCommandRefused};
 ghost use Rattle.play_script.specs.Steps.{HasSmallBytes, IsSmall};
-ghost use Rattle.plain_commands.specs.Turns.{IsPlayed, Adds, AnsweredCall, Maintains, Said, ShownRows, Taken, Tells, Refuses, RefusesStep};
+ghost use Rattle.plain_commands.specs.Turns.{IsPlayed, AddsAnswer, AnsweredCall, Maintains, Said, ShownRows, Taken, TellsStop, RefusesScriptLine, RefusesStep};
 ghost use Rattle.lb_model.specs.declared.journal.TheConstants.{MOST_BYTES};
 
 use jk_io::{Bytes, NoMemory};
@@ -61,7 +61,7 @@ fn select(
 fn give_back(book: &mut Book, at: u64, ticket: u64, outcome: Outcome) -> Result<(), ScriptRefusal>
     requires played { IsPlayed book.old }
     requires small { outcome.bytes ≤ MOST_BYTES }
-    ensures ok { OnOk result (Adds at (Call.Return ticket outcome) book.old book.new) }
+    ensures ok { OnOk result (AddsAnswer at (Call.Return ticket outcome) book.old book.new) }
     ensures refused { IfErr result (IsAskRefused book.old.opening (past_of book.old) (Call.Return ticket outcome)) }
     ensures err { IfErr result (λ _. book.new ≡ book.old) }
 {
@@ -86,8 +86,8 @@ fn maintain(book: &mut Book, at: u64) -> Result<(), NoMemory>
 fn admin(book: &mut Book, at: u64, command: &Command) -> Result<(), Stop>
     requires played { IsPlayed book.old }
     requires few { length book.old.entries < ENTRIES_LIMIT }
-    ensures ok { OnOk result (Adds at (Call.Admin command.now) book.old book.new) }
-    ensures refused { IfErr result (λ stop. Tells stop (IsCommandRefused book.old.opening (past_of book.old) command.now)) }
+    ensures ok { OnOk result (AddsAnswer at (Call.Admin command.now) book.old book.new) }
+    ensures refused { IfErr result (λ stop. TellsStop stop (IsCommandRefused book.old.opening (past_of book.old) command.now)) }
 {
     match book.admin(SESSION, at, command) {
         Ok(_) => Ok(()),
@@ -112,8 +112,8 @@ fn ask(names: &NameList, book: &mut Book, at: u64, call: &Call, out: &mut Bytes)
     requires few { length book.old.entries < ENTRIES_LIMIT }
     requires small { HasSmallBytes call.now }
     ensures ok { OnOk result (AnsweredCall names.now at call.now book.old book.new out.old out.new) }
-    ensures refused { IfErr result (λ stop. Tells stop (IsAskRefused book.old.opening (past_of book.old) call.now)) }
-    ensures err { IfErr result (λ stop. Tells stop (λ _. out.new ≡ out.old)) }
+    ensures refused { IfErr result (λ stop. TellsStop stop (IsAskRefused book.old.opening (past_of book.old) call.now)) }
+    ensures err { IfErr result (λ stop. TellsStop stop (λ _. out.new ≡ out.old)) }
 {
     match call {
         Call::Select(asked) => Ok(select(names, book, at, asked, out)?),
@@ -137,7 +137,7 @@ fn take_step(
     requires few { length book.old.entries < ENTRIES_LIMIT }
     requires small { IsSmall step.now }
     ensures ok { IfOk result (λ moment. Said names.now at step.now moment book.old book.new out.old out.new) }
-    ensures refused { IfErr result (λ stop. Tells stop (RefusesStep step.now book.old out.old out.new)) }
+    ensures refused { IfErr result (λ stop. TellsStop stop (RefusesStep step.now book.old out.old out.new)) }
 {
     match step {
         Step::At(moment) => Ok(*moment),
@@ -164,7 +164,7 @@ pub(crate) fn take_line(
     requires few { length book.old.entries < ENTRIES_LIMIT }
     requires names { length names.now < 2 ^ 32 }
     ensures ok { IfOk result (λ moment. Taken names.now at line.now moment book.old book.new out.old out.new) }
-    ensures refused { IfErr result (λ stop. Tells stop (Refuses names.now line.now book.old out.old out.new)) }
+    ensures refused { IfErr result (λ stop. TellsStop stop (RefusesScriptLine names.now line.now book.old out.old out.new)) }
 {
     if is_skipped(line) {
         return Ok(at);

@@ -8,7 +8,7 @@ use Rattle.play_script.specs.declared.printed.ScriptRefusal.{ScriptRefusal}
 use Rattle.play_script.specs.Heads.{HeadWords, head_of}
 use Rattle.play_script.specs.Steps.{step_of}
 use Rattle.play_script.specs.Drafts.{DraftWords, names_in, draft_after, moment_after}
-use Rattle.play_script.specs.Play.{is_skipped, Stops, IsRefusedLine, SaysLine, Takes, Runs, Starts, Plays}
+use Rattle.play_script.specs.Play.{is_skipped, StopsScript, IsRefusedLine, SaysLine, PlaysLine, Runs, Starts, Plays}
 
 at_true : {b : Bool} (P Q : Type 0) → b ≡ true → P → MatchBool b P Q
 at_true P Q e p = subst (λ x. MatchBool x P Q) (sym e) p
@@ -50,6 +50,6 @@ module _ (names : List (List ℕ)) (o : Opening) (line : List ℕ) (lines : List
 
   -- a refused line ends the script
   pub runs_stopped : (reason : ScriptRefusal) (out : List ℕ) (status : ℕ) → is_skipped line ≡ false
-      → IsRefusedLine o p (step_of names line) reason → Stops number reason out status
+      → IsRefusedLine o p (step_of names line) reason → StopsScript number reason out status
       → Runs names o (line ∷ lines) number at p out status
   runs_stopped reason out status full refused stops = at_false _ _ full (inl (reason, refused, stops))

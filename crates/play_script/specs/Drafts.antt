@@ -1,7 +1,7 @@
 -- A balancer as its lines describe it, and the configuration and start that are made of that.
 use Rattle.std.specs.Prelude.{◌≡◌, ℕ, Bool, true, false, ◌⊎◌, List, [], ◌∷◌, ◌++◌, map, Option, Some, None, is_some, option_and_then}
 use Rattle.std.specs.List.{list_all}
-use Rattle.lb_model.specs.Ranges.{IsRefused}
+use Rattle.lb_model.specs.Ranges.{IsRefusedConfig}
 use Rattle.lb_model.specs.declared.config.LbConfig.{LbConfig}
 use Rattle.lb_model.specs.declared.config_error.ConfigError.{ConfigError}
 use Rattle.lb_model.specs.declared.member.MemberConfig.{MemberConfig}
@@ -85,7 +85,7 @@ pub record IsConfigOf (draft : DraftWords) (c : LbConfig) : Type 0 where
 abbrev pub IsNoBalancer : DraftWords → Type 0
 IsNoBalancer draft =
     (has_targets (names_in draft) draft.members ≡ false)
-    ⊎ ((e : ConfigError) × IsRefused draft.rules.maintain draft.rules.recover (configs_of (names_in draft) draft.members) e)
+    ⊎ ((e : ConfigError) × IsRefusedConfig draft.rules.maintain draft.rules.recover (configs_of (names_in draft) draft.members) e)
 
 -- A member's row at the start: Ok, with no load and no ticket out.
 abbrev pub start_row : MemberConfig → MemberRow

@@ -30,7 +30,7 @@ is_skipped [] = true
 is_skipped (byte ∷ text) = byte == 35
 
 -- The script is refused at a line: its refusal is printed, and nothing after it is looked at.
-pub record Stops (number : ℕ) (reason : ScriptRefusal) (out : List ℕ) (status : ℕ) : Type 0 where
+pub record StopsScript (number : ℕ) (reason : ScriptRefusal) (out : List ℕ) (status : ℕ) : Type 0 where
   pub printed : out ≡ refusal_line number reason
   pub ended : status ≡ 3
 
@@ -94,9 +94,9 @@ SaysLine names o at p None printed moment q = ⊥
 SaysLine names o at p (Some said) printed moment q = Says names o at p said printed moment q
 
 -- A line prints its part and the lines after it theirs (Rest), or it ends the script.
-abbrev pub Takes : List (List ℕ) → Opening → (number at : ℕ) → List Entry → Option Step → (Rest : ℕ → List Entry → List ℕ → ℕ → Type 0) → List ℕ → ℕ → Type 0
-Takes names o number at p said Rest out status =
-    ((reason : ScriptRefusal) × IsRefusedLine o p said reason × Stops number reason out status)
+abbrev pub PlaysLine : List (List ℕ) → Opening → (number at : ℕ) → List Entry → Option Step → (Rest : ℕ → List Entry → List ℕ → ℕ → Type 0) → List ℕ → ℕ → Type 0
+PlaysLine names o number at p said Rest out status =
+    ((reason : ScriptRefusal) × IsRefusedLine o p said reason × StopsScript number reason out status)
     ⊎ ((printed : List ℕ) × (behind : List ℕ) × (moment : ℕ) × (q : List Entry)
     × SaysLine names o at p said printed moment q × (out ≡ printed ++ behind) × Rest moment q behind status)
 
@@ -106,13 +106,13 @@ Runs names o [] number at p out status = (out ≡ []) × (status ≡ 0)
 Runs names o (line ∷ lines) number at p out status =
     MatchBool (is_skipped line)
     (Runs names o lines (number + 1) at p out status)
-    (Takes names o number at p (step_of names line) (λ moment q behind end. Runs names o lines (number + 1) moment q behind end) out status)
+    (PlaysLine names o number at p (step_of names line) (λ moment q behind end. Runs names o lines (number + 1) moment q behind end) out status)
 
 -- The balancer starts at a line that isn't one of its own, if it is a line at all.
 abbrev pub Starts : Option Step → DraftWords → List (List ℕ) → (number at : ℕ) → List ℕ → ℕ → Type 0
-Starts None draft lines number at out status = Stops number refusal.BadLine out status
+Starts None draft lines number at out status = StopsScript number refusal.BadLine out status
 Starts (Some said) draft lines number at out status =
-    (IsNoBalancer draft × Stops number refusal.BadBalancer out status)
+    (IsNoBalancer draft × StopsScript number refusal.BadBalancer out status)
     ⊎ ((o : Opening) × IsStart draft at o × Runs (names_in draft) o lines number at [] out status)
 
 -- The output of lines, the first of which has this number, where the lines before it gave this draft of a balancer.

@@ -25,5 +25,5 @@ pub record EndsHead (bytes : List ℕ) (n : ℕ) : Type 0 where
   pub count : n ≡ at + 1 + len
 
 -- so many bytes are fewer than a head may have
-abbrev pub IsShort : ℕ → Type 0
-IsShort count = count < 16384
+abbrev pub IsShortHead : ℕ → Type 0
+IsShortHead count = count < 16384

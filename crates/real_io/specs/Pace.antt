@@ -7,7 +7,7 @@ abbrev pub least_of : ℕ → ℕ
 least_of rate = min (rate * 20) 18446744073709551615
 
 -- after more bytes went: where so many did, the 20 seconds begin anew
-pub record GoesOn (before : Pace) (count now : ℕ) (after : Pace) : Type 0 where
+pub record PaceGoesOn (before : Pace) (count now : ℕ) (after : Pace) : Type 0 where
   pub anew : before.least ≤ before.went + count → after ≡ record before { since = now; went = 0 }
   pub on : before.went + count < before.least → after ≡ record before { went = before.went + count }
 

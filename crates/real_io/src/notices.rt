@@ -1,7 +1,7 @@
 //! Lines on standard error, at most one a second of a kind.
 ghost use Rattle.std.specs.Prelude.{◌≡◌, ◌↔◌, ◌++◌, [], IsTrue, None, OnOk, codes, if◌then◌else◌};
 ghost use Rattle.std.specs.List.{flat_map, list_any};
-ghost use Rattle.real_io.specs.Notices.{Asks, IsDueAfter, is_at, member_text, name_at};
+ghost use Rattle.real_io.specs.Notices.{AsksBack, IsDueAfter, is_at, member_text, name_at};
 
 use crate::moments::moment;
 use jk_io::{Bytes, NoMemory, put_decimal};
@@ -40,7 +40,7 @@ impl Tally {
 
     /// Whether a line is said at this moment, and how many were left out before it.
     pub fn ask(&mut self, now: u64) -> Option<u64>
-        ensures { Asks self.old now self.new result }
+        ensures { AsksBack self.old now self.new result }
     {
         if !is_due(self.last, now) {
             self.left_out = self.left_out.saturating_add(1);

@@ -1,6 +1,6 @@
 //! The outbox of a worker: all that it wrote to its client and hasn't sent yet.
 ghost use Rattle.std.specs.Prelude.{◌≡◌, ◌<◌, ◌≤◌, ◌++◌, [], IfNone, IfSome, IsSome, None, false, length, not, take, true};
-ghost use Rattle.real_io.specs.Held.{GoesOn};
+ghost use Rattle.real_io.specs.Held.{HoldsRest};
 ghost use Rattle.real_io.specs.Waitless.{IfCame};
 
 use crate::held_bytes::HeldBytes;
@@ -22,7 +22,7 @@ impl<E: Sink> Held<E> {
     // Sends what waits, and tells whether nothing failed until now. What couldn't go out stays held.
     fn flush(&mut self) -> bool
         ensures went { result ≡ true → self.new.bytes ≡ [] }
-        ensures whole { GoesOn E.sent self.old.end self.old.bytes self.new.end self.new.bytes }
+        ensures whole { HoldsRest E.sent self.old.end self.old.bytes self.new.end self.new.bytes }
         ensures told { result ≡ not self.new.is_broken }
         ensures stays { self.old.is_broken ≡ true → self.new ≡ self.old }
     {
@@ -37,8 +37,8 @@ impl<E: Sink> Held<E> {
     fn put(&mut self, piece: &[u8]) -> Option<usize>
         requires { 0 < length piece.now }
         ensures count { IfSome result (λ n. (0 < n) × (n ≤ length piece.now)) }
-        ensures held { IfSome result (λ n. GoesOn E.sent self.old.end (self.old.bytes ++ take n piece.now) self.new.end self.new.bytes) }
-        ensures none { IfNone result (GoesOn E.sent self.old.end self.old.bytes self.new.end self.new.bytes) }
+        ensures held { IfSome result (λ n. HoldsRest E.sent self.old.end (self.old.bytes ++ take n piece.now) self.new.end self.new.bytes) }
+        ensures none { IfNone result (HoldsRest E.sent self.old.end self.old.bytes self.new.end self.new.bytes) }
         ensures stays { self.old.is_broken ≡ true → (result ≡ None) × (self.new ≡ self.old) }
     {
         if self.is_broken {
@@ -53,7 +53,7 @@ impl<E: Sink> Held<E> {
 // Sends what is held, and tells whether all went out.
 fn send_held<E: Sink>(end: &mut Option<E>, bytes: &mut HeldBytes) -> bool
     ensures went { result ≡ true → bytes.new ≡ [] }
-    ensures whole { GoesOn E.sent end.old bytes.old end.new bytes.new }
+    ensures whole { HoldsRest E.sent end.old bytes.old end.new bytes.new }
 {
     match end {
         Some(end) => bytes.flush(end).is_ok(),
@@ -65,8 +65,8 @@ fn send_held<E: Sink>(end: &mut Option<E>, bytes: &mut HeldBytes) -> bool
 fn put_held<E: Sink>(end: &mut Option<E>, bytes: &mut HeldBytes, piece: &[u8]) -> Option<usize>
     requires { 0 < length piece.now }
     ensures count { IfSome result (λ n. (0 < n) × (n ≤ length piece.now)) }
-    ensures held { IfSome result (λ n. GoesOn E.sent end.old (bytes.old ++ take n piece.now) end.new bytes.new) }
-    ensures none { IfNone result (GoesOn E.sent end.old bytes.old end.new bytes.new) }
+    ensures held { IfSome result (λ n. HoldsRest E.sent end.old (bytes.old ++ take n piece.now) end.new bytes.new) }
+    ensures none { IfNone result (HoldsRest E.sent end.old bytes.old end.new bytes.new) }
 {
     match end {
         Some(end) => bytes.put(end, piece).ok(),

@@ -1,6 +1,6 @@
 //! How fast a client gives its body or takes its reply, at the least.
 ghost use Rattle.std.specs.Prelude.{◌≡◌, ◌↔◌, ◌+◌, ◌<◌, ◌≤◌, IsTrue};
-ghost use Rattle.real_io.specs.Pace.{GoesOn, IsLost, least_of};
+ghost use Rattle.real_io.specs.Pace.{PaceGoesOn, IsLost, least_of};
 
 /// The seconds in which so many bytes are to go.
 pub const PACE_SECONDS: u64 = 20;
@@ -32,7 +32,7 @@ impl Pace {
 
     /// The pace once more bytes went.
     pub fn after(self, count: u64, now: u64) -> Pace
-        ensures { GoesOn self count now result }
+        ensures { PaceGoesOn self count now result }
     {
         match self.went.checked_add(count) {
             Some(went) if went < self.least => Pace { went, ..self },

@@ -2,7 +2,7 @@
 ghost use Rattle.std.specs.Prelude.{◌≡◌, ◌≢◌, ◌+◌, ◌-◌, ◌<◌, ◌≤◌, ◌⊎◌, ℕ, IfOk, IfSome, IsOk, None, false, length, take, drop, true, vec_len};
 ghost use Rattle.jk_io.specs.Told.{HasCause, Rose};
 ghost use Rattle.std.specs.List.{between};
-ghost use Rattle.real_io.specs.Heads.{EndsHead, IsShort};
+ghost use Rattle.real_io.specs.Heads.{EndsHead, IsShortHead};
 ghost use Rattle.real_io.specs.Unflushed.{unflushed_with, replies_after};
 ghost use Rattle.real_io.specs.Waitless.{IfCame};
 
@@ -269,8 +269,8 @@ impl TcpLink {
     // Whether no whole head was read ahead, and fewer bytes than a head may have.
     fn lacks_head(&self) -> bool
         ensures none { result ≡ true → (n : ℕ) → EndsHead (between self.now.from self.now.to self.now.ahead.items) n → ⊥ }
-        ensures short { result ≡ true → IsShort (self.now.to - self.now.from) }
-        ensures whole { result ≡ false → IsShort (self.now.to - self.now.from)
+        ensures short { result ≡ true → IsShortHead (self.now.to - self.now.from) }
+        ensures whole { result ≡ false → IsShortHead (self.now.to - self.now.from)
             → (n : ℕ) × EndsHead (between self.now.from self.now.to self.now.ahead.items) n }
     {
         if self.to - self.from >= MAX_HEAD_BYTES {
@@ -288,7 +288,7 @@ impl TcpLink {
         ensures brief { self.new.looked ≤ self.old.looked + 10 }
         ensures few { self.new.looked ≤ 2560 ⊎ (self.new.looked ≡ self.old.looked) }
         ensures untold { self.old.leisure ≡ None → self.new.looked ≡ self.old.looked }
-        ensures short { result ≡ true → IsShort (self.new.to - self.new.from) }
+        ensures short { result ≡ true → IsShortHead (self.new.to - self.new.from) }
         ensures same { self.new.failed ≡ self.old.failed }
     {
         if !self.lacks_head() {
@@ -538,7 +538,7 @@ impl Link for TcpLink {
         ensures none { result ≡ true → (n : ℕ) → EndsHead (between self.new.from self.new.to self.new.ahead.items) n → ⊥ }
 
         // Nor as many bytes as a head may have.
-        ensures short { result ≡ true → IsShort (self.new.to - self.new.from) }
+        ensures short { result ≡ true → IsShortHead (self.new.to - self.new.from) }
         ensures idle { result ≡ self.new.is_idle }
 
         // It waits for its client for 10 milliseconds at most, 256 times at most, and only where it is told whether workers are free.

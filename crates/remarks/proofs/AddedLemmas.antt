@@ -3,14 +3,14 @@ use Rattle.std.proofs.Common.{◌≡◌, ℕ, List, [], ◌++◌, Option, Result
 use Rattle.jk_io.specs.Told.{HasCause, appended, PutsFront}
 use Rattle.jk_io.specs.declared.failures.IoError.{IoError}
 use Rattle.jk_io.proofs.ToldLaws.{appended-appended}
-use Rattle.remarks.specs.Added.{Adds, AddsFor, AddsSaid, AddsSome, AddsText, IsFront, RemarkOutState}
+use Rattle.remarks.specs.Added.{Adds, AddsFor, AddsSaid, AddsSome, AddsText, IsFrontOfText, RemarkOutState}
 
 -- nothing was added
-pub front_none : (old : Option (List ℕ)) (text : List ℕ) → IsFront (appended old text) old
+pub front_none : (old : Option (List ℕ)) (text : List ℕ) → IsFrontOfText (appended old text) old
 front_none old text = (text, refl)
 
 -- a front of a text that is added is one of a longer text
-pub front_more : (old new : Option (List ℕ)) (a b : List ℕ) → IsFront (appended old a) new → IsFront (appended old (a ++ b)) new
+pub front_more : (old new : Option (List ℕ)) (a b : List ℕ) → IsFrontOfText (appended old a) new → IsFrontOfText (appended old (a ++ b)) new
 front_more old new a b front =
     (front.0 ++ b, sym (appended-appended old a b) ∙ ap (λ (t : Option (List ℕ)). appended t b) front.1 ∙ appended-appended new front.0 b)
 
@@ -61,12 +61,12 @@ adds_after x r old mid new a b first second = record {
 }
 
 -- a front of the piece was written
-front_put : (old new : Option (List ℕ)) (piece : List ℕ) → PutsFront old new piece → IsFront (appended old piece) new
+front_put : (old new : Option (List ℕ)) (piece : List ℕ) → PutsFront old new piece → IsFrontOfText (appended old piece) new
 front_put old new piece put =
     (put.rest, ap (appended old) put.whole ∙ sym (appended-appended old put.front put.rest) ∙ ap (λ (t : Option (List ℕ)). appended t put.rest) (sym put.put))
 
 -- after a refusal a front of the piece was written
-pub sink_front : {T : Type 0} (r : Result T IoError) (old new : Option (List ℕ)) (piece : List ℕ) → OnErr r (PutsFront old new piece) → OnErr r (IsFront (appended old piece) new)
+pub sink_front : {T : Type 0} (r : Result T IoError) (old new : Option (List ℕ)) (piece : List ℕ) → OnErr r (PutsFront old new piece) → OnErr r (IsFrontOfText (appended old piece) new)
 sink_front (Ok x) old new piece put = tt
 sink_front (Err e) old new piece put = front_put old new piece put
 
@@ -77,6 +77,6 @@ sink_adds (Ok x) old new piece all front = all
 sink_adds (Err e) old new piece all front = front_put old new piece front
 
 -- a call that failed had added a front
-pub failed : {T : Type 0} (r : Result T IoError) (P : IoError → Type 0) (old new : Option (List ℕ)) (text : List ℕ) → IsErrAnd r P → IsFront (appended old text) new → AddsText r old new text
+pub failed : {T : Type 0} (r : Result T IoError) (P : IoError → Type 0) (old new : Option (List ℕ)) (text : List ℕ) → IsErrAnd r P → IsFrontOfText (appended old text) new → AddsText r old new text
 failed (Ok x) P old new text err front = absurd err
 failed (Err e) P old new text err front = front

@@ -9,7 +9,7 @@ use Rattle.jk_io.specs.declared.failures.IoError.{IoError}
 use Rattle.jk_io.specs.declared.failures.IoError.TheVariants as Io
 use Rattle.site_config.specs.Lines.{lines}
 use Rattle.site_config.specs.declared.values.WorkerKind.{WorkerKind}
-use Rattle.remarks.specs.Added.{AddsText, IsFront}
+use Rattle.remarks.specs.Added.{AddsText, IsFrontOfText}
 use Rattle.remarks.proofs.AddedLemmas.{adds_same, adds_then, front_more}
 use Rattle.remarks.specs.MapNotices.{notices_from}
 use Rattle.remarks.specs.Notices.{SiteKinds, notice}
@@ -34,10 +34,10 @@ notices_more r file kinds ps front back start told new before more =
 
 -- the notices so far and a front of those of the next line
 pub cut_short : (file : List ℕ) (kinds : SiteKinds) (ps front one back : List Property) (start told new : Option (List ℕ)) → ps ≡ (front ++ one) ++ back
-    → told ≡ appended start (flat_map (notice file kinds ps) front) → IsFront (appended told (flat_map (notice file kinds ps) one)) new
-    → IsFront (appended start (flat_map (notice file kinds ps) ps)) new
+    → told ≡ appended start (flat_map (notice file kinds ps) front) → IsFrontOfText (appended told (flat_map (notice file kinds ps) one)) new
+    → IsFrontOfText (appended start (flat_map (notice file kinds ps) ps)) new
 cut_short file kinds ps front one back start told new whole before cut =
     let so = flat_map (notice file kinds ps) in
     let more = notices_more {T = ⊤} (Err Io.NoMemory) file kinds ps front one start told new before cut in
-    let longer : IsFront (appended start (so (front ++ one) ++ so back)) new = front_more start new (so (front ++ one)) (so back) more in
-    subst (λ (text : List ℕ). IsFront (appended start text) new) (sym (ap so whole ∙ flat_map-append (notice file kinds ps) (front ++ one) back)) longer
+    let longer : IsFrontOfText (appended start (so (front ++ one) ++ so back)) new = front_more start new (so (front ++ one)) (so back) more in
+    subst (λ (text : List ℕ). IsFrontOfText (appended start text) new) (sym (ap so whole ∙ flat_map-append (notice file kinds ps) (front ++ one) back)) longer

@@ -19,8 +19,8 @@ abbrev pub Says : ℕ → (line : List ℕ) → Option Property → Type 0
 Says number line says = said true number (trimmed line) ≡ Ok says
 
 -- the lines of a workers.properties say this
-abbrev pub Reads : (text : List ℕ) → List Property → Type 0
-Reads text ps = read_text true text ≡ Ok ps
+abbrev pub ReadsProperties : (text : List ℕ) → List Property → Type 0
+ReadsProperties text ps = read_text true text ≡ Ok ps
 
 -- a directive that is built, other than the lists of members, which are joined
 abbrev pub is_single_directive : Option Directive → Bool

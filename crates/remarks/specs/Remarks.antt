@@ -16,7 +16,7 @@ use Rattle.remarks.specs.Notices.{kinds_of, notices, site_kinds}
 use Rattle.remarks.specs.Refused.{is_refused_by_line, refused_lines, wrong_line, wrong_rule}
 use Rattle.site_mounts.specs.Lines.{read_text}
 use Rattle.site_mounts.specs.declared.rule.Rule.{Rule}
-use Rattle.site_workers.specs.Site.{IsConfig, IsRefused}
+use Rattle.site_workers.specs.Site.{IsConfig, IsRefusedText}
 
 -- of the lines of a workers.properties that gives this configuration
 abbrev pub workers_remarks : (effects : Bool) → (file : List ℕ) → Config → List Property → List ℕ
@@ -50,7 +50,7 @@ workers_refusals workers r =
 -- of both files: why the first refused one is refused, and what in accepted ones has no effect
 abbrev pub AreRemarks : (effects : Bool) → (workers : List ℕ × List ℕ) → (map : Option (List ℕ × List ℕ)) → (out : List ℕ) → Type 0
 AreRemarks effects workers map out =
-    ((r : LineRefusal) × IsRefused workers.1 r × (out ≡ workers_refusals workers r))
+    ((r : LineRefusal) × IsRefusedText workers.1 r × (out ≡ workers_refusals workers r))
     ⊎ ((c : Config) × IsConfig workers.1 c × (ps : List Property) × (properties.read_text true workers.1 ≡ Ok ps)
     × (out ≡ workers_remarks effects workers.0 c ps ++ map_remarks effects c map))
 
@@ -61,7 +61,7 @@ AreAccepted workers map = (c : Config) × IsConfig workers.1 c × IsOk (read_tex
 -- one of them is refused
 abbrev pub IsOneRefused : (workers map : List ℕ × List ℕ) → Type 0
 IsOneRefused workers map =
-    ((r : LineRefusal) × IsRefused workers.1 r) ⊎ ((c : Config) × IsConfig workers.1 c × IsErr (read_text c map.1))
+    ((r : LineRefusal) × IsRefusedText workers.1 r) ⊎ ((c : Config) × IsConfig workers.1 c × IsErr (read_text c map.1))
 
 -- of both files: what in them has no effect, where both are accepted, and nothing where one is refused
 abbrev pub AreEffects : (workers map : List ℕ × List ℕ) → (out : List ℕ) → Type 0
@@ -81,11 +81,11 @@ abbrev pub maps_of : SiteFiles → Option (List ℕ × List ℕ)
 maps_of files = option_map as_file files.map
 
 -- the text is one that a command takes: at most 67,108,864 bytes
-abbrev pub IsShort : SiteFile → Type 0
-IsShort file = length file.text.now ≤ 67108864
+abbrev pub IsShortFile : SiteFile → Type 0
+IsShortFile file = length file.text.now ≤ 67108864
 
 abbrev pub AreShort : SiteFiles → Type 0
-AreShort files = IsShort files.workers × IfSome files.map IsShort
+AreShort files = IsShortFile files.workers × IfSome files.map IsShortFile
 
 -- of both files where they are accepted, by what the first says
 abbrev pub site_remarks : (effects : Bool) → SiteFiles → Config → List Property → List ℕ

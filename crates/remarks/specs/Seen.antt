@@ -28,8 +28,8 @@ pub record Keeps (name : List ℕ) (given : Result (List ℕ) FileError) (old ne
   pub long : read.too_long ≡ is_long given
 
 -- room for one more was taken at the end
-abbrev pub HasRoom : (old new : List ReadFile) → Type 0
-HasRoom old new = (room : ReadFile) × (new ≡ old ++ room ∷ [])
+abbrev pub HasPlace : (old new : List ReadFile) → Type 0
+HasPlace old new = (room : ReadFile) × (new ≡ old ++ room ∷ [])
 
 -- The answer of a read was kept, or memory was wanted for that.
 abbrev pub KeepsAnswer : (name : List ℕ) → (answer : Result (List ℕ) FileError) → (old new : List ReadFile) → Type 0

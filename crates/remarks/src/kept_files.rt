@@ -2,7 +2,7 @@
 ghost use Rattle.std.specs.Prelude.{◌≡◌, ◌<◌, ◌≤◌, [], List, IfOk, IfSome, IsErrOf, IsOk, IsSomeAnd, length, OnErr, OnOk, Some};
 ghost use Rattle.jk_io.specs.Stored.{content_of};
 ghost use Rattle.jk_io.specs.Told.{Rose};
-ghost use Rattle.remarks.specs.Seen.{HasRoom, Keeps, KeepsAnswer, is_long, text_given};
+ghost use Rattle.remarks.specs.Seen.{HasPlace, Keeps, KeepsAnswer, is_long, text_given};
 ghost use Rattle.jk_io.specs.declared.whole_input.TheConstants.{MAX_INPUT_BYTES};
 
 use crate::read_file::ReadFile;
@@ -56,7 +56,7 @@ fn is_too_long(answer: &Result<Bytes, FileError>) -> bool
 /// Takes the room for what the read of a file gives, and a copy of its name.
 fn make_room(alloc: Global, reads: &mut ListOf<ReadFile>, name: &Bytes) -> Result<Bytes, NoMemory>
     ensures name { IfOk result (λ copy. copy ≡ name.now) }
-    ensures room { OnOk result (HasRoom reads.old reads.new) }
+    ensures room { OnOk result (HasPlace reads.old reads.new) }
     ensures err { OnErr result (reads.new ≡ reads.old) }
 {
     let copy = Bytes::from_slice(alloc, name.as_slice())?;
@@ -77,8 +77,8 @@ fn keep(
 ) -> Result<(), NoMemory>
     requires short { IfOk answer.now (λ t. length t ≤ MAX_INPUT_BYTES) }
     requires room { 0 < length reads.old }
-    ensures kept { (front : List ReadFile) → HasRoom front reads.old → OnOk result (Keeps name answer.now front reads.new) }
-    ensures err { (front : List ReadFile) → HasRoom front reads.old → OnErr result (reads.new ≡ front) }
+    ensures kept { (front : List ReadFile) → HasPlace front reads.old → OnOk result (Keeps name answer.now front reads.new) }
+    ensures err { (front : List ReadFile) → HasPlace front reads.old → OnErr result (reads.new ≡ front) }
 
     // Memory is wanted for a text alone.
     ensures wanted { OnErr result (IsOk answer.now) }

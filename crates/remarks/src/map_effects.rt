@@ -3,7 +3,7 @@ ghost use Rattle.std.specs.Prelude.{◌≡◌, IfOk};
 ghost use Rattle.remarks.specs.Added.{Adds, AddsFor};
 ghost use Rattle.remarks.specs.KindTables.{IsKindTable};
 ghost use Rattle.remarks.specs.MapNotices.{empty_words};
-ghost use Rattle.remarks.specs.Remarks.{IsShort, as_file, effect_words};
+ghost use Rattle.remarks.specs.Remarks.{IsShortFile, as_file, effect_words};
 
 use crate::kinds::KindTable;
 use crate::map_notices::put_map_notices;
@@ -46,7 +46,7 @@ pub(crate) fn put_map_effects<O: Sink + Drop>(
     map: &SiteFile<'_>,
     rules: &UriMap,
 ) -> Result<(), IoError>
-    requires { IsShort map.now }
+    requires { IsShortFile map.now }
     ensures { AddsFor result out.old out.new (IsKindTable table.now) (λ kinds. effect_words (as_file map.now) kinds rules.now) }
 {
     put_map_notices(alloc, out, table, map)?;

@@ -6,7 +6,7 @@ ghost use Rattle.site_config.specs.declared.property.Property.{Property};
 ghost use Rattle.jk_io.specs.declared.whole_input.TheConstants.{MAX_INPUT_BYTES};
 ghost use Rattle.site_config.specs.Entries.{as_property};
 ghost use Rattle.remarks.specs.Added.{AddsFor};
-ghost use Rattle.remarks.specs.Again.{Reads, Says};
+ghost use Rattle.remarks.specs.Again.{ReadsProperties, Says};
 ghost use Rattle.remarks.specs.KindTables.{AreKindTables, AreTables, ForTables, IsKindTable, SiteLines};
 ghost use Rattle.remarks.specs.Notices.{
   SiteKinds,
@@ -336,7 +336,7 @@ pub(crate) fn put_notices<O: Sink + Drop>(
     workers: &SiteFile<'_>,
 ) -> Result<(), IoError>
     requires { length workers.now.text.now ≤ MAX_INPUT_BYTES }
-    ensures { AddsFor result out.old out.new (λ (s : SiteLines). AreTables tables.now s × Reads workers.now.text.now s.lines)
+    ensures { AddsFor result out.old out.new (λ (s : SiteLines). AreTables tables.now s × ReadsProperties workers.now.text.now s.lines)
         (λ s. notices workers.now.name.now s.kinds s.lines) }
 {
     let mut buffer = Bytes::new(alloc);

@@ -1,7 +1,7 @@
 //! Where remarks go.
 ghost use Rattle.std.specs.Prelude.{◌≡◌, [], IsOk, OnErr, OnOk};
 ghost use Rattle.jk_io.specs.Told.{appended, HasCause};
-ghost use Rattle.remarks.specs.Added.{Adds, AddsText, IsFront};
+ghost use Rattle.remarks.specs.Added.{Adds, AddsText, IsFrontOfText};
 
 use jk_io::{Bytes, IoError, Sink, write_all};
 use std::alloc::Global;
@@ -74,7 +74,7 @@ impl<O: Sink + Drop> RemarkOut<O> {
     /// The sink, which took all of it, or a front after an error.
     pub fn finish(self) -> (O, Result<(), IoError>)
         ensures all { OnOk result.1 (O.sent result.0 ≡ self.said) }
-        ensures front { OnErr result.1 (IsFront self.said (O.sent result.0)) }
+        ensures front { OnErr result.1 (IsFrontOfText self.said (O.sent result.0)) }
         ensures cause { HasCause self.faults (O.faults result.0) result.1 }
         ensures steady { IsOk result.1 → O.faults result.0 ≡ self.faults }
     {

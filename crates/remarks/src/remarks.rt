@@ -6,9 +6,9 @@ ghost use Rattle.remarks.specs.Explained.{explained_workers};
 ghost use Rattle.remarks.specs.KindTables.{IsKindTable};
 ghost use Rattle.remarks.specs.Notices.{kinds_of, notices, site_kinds};
 ghost use Rattle.remarks.specs.Added.{Adds, AddsFor, AddsSome};
-ghost use Rattle.remarks.specs.Again.{Reads};
+ghost use Rattle.remarks.specs.Again.{ReadsProperties};
 ghost use Rattle.remarks.specs.Refused.{refused_lines, wrong_rule};
-ghost use Rattle.remarks.specs.Remarks.{AreRemarks, AreShort, IsShort, as_file, map_remarks, maps_of, rules_remarks, site_remarks, workers_refusals, workers_remarks};
+ghost use Rattle.remarks.specs.Remarks.{AreRemarks, AreShort, IsShortFile, as_file, map_remarks, maps_of, rules_remarks, site_remarks, workers_refusals, workers_remarks};
 
 use crate::again::line_table;
 use crate::explain::explain_workers;
@@ -31,7 +31,7 @@ fn put_map_refusals<O: Sink + Drop>(
     config: &Config,
     map: &SiteFile<'_>,
 ) -> Result<(), IoError>
-    requires { IsShort map.now }
+    requires { IsShortFile map.now }
     ensures { Adds result out.old out.new
         (refused_lines (wrong_rule config.now) map.now.name.now map.now.text.now) }
 {
@@ -64,7 +64,7 @@ fn put_workers_refusals<O: Sink + Drop>(
     line: u32,
     code: u8,
 ) -> Result<(), IoError>
-    requires { IsShort workers.now }
+    requires { IsShortFile workers.now }
     ensures { Adds result out.old out.new
         (workers_refusals (as_file workers.now) (record { line = line; code = code })) }
 {
@@ -85,7 +85,7 @@ fn put_map<O: Sink + Drop>(
     map: &SiteFile<'_>,
     effects: bool,
 ) -> Result<(), IoError>
-    requires short { IsShort map.now }
+    requires short { IsShortFile map.now }
     requires table { IsKindTable table.now (kinds_of config.now) }
     ensures { Adds result out.old out.new
         (rules_remarks effects config.now (as_file map.now) (read_text config.now map.now.text.now)) }
@@ -112,7 +112,7 @@ fn put_any_map<O: Sink + Drop>(
     map: Option<SiteFile<'_>>,
     effects: bool,
 ) -> Result<(), IoError>
-    requires short { IfSome map IsShort }
+    requires short { IfSome map IsShortFile }
     requires table { IsKindTable table.now (kinds_of config.now) }
     ensures { Adds result out.old out.new (map_remarks effects config.now (option_map as_file map.entry)) }
 {
@@ -130,9 +130,9 @@ pub(crate) fn put_effects<O: Sink + Drop>(
     table: &KindTable<'_>,
     workers: &SiteFile<'_>,
 ) -> Result<(), IoError>
-    requires short { IsShort workers.now }
+    requires short { IsShortFile workers.now }
     requires table { IsKindTable table.now (kinds_of config.now) }
-    ensures { AddsFor result out.old out.new (Reads workers.now.text.now) (notices workers.now.name.now (site_kinds config.now)) }
+    ensures { AddsFor result out.old out.new (ReadsProperties workers.now.text.now) (notices workers.now.name.now (site_kinds config.now)) }
 {
     let redirects = redirect_table(alloc, config)?;
     let lines = line_table(alloc, workers.text)?;
@@ -153,9 +153,9 @@ fn put_workers<O: Sink + Drop>(
     workers: &SiteFile<'_>,
     effects: bool,
 ) -> Result<(), IoError>
-    requires short { IsShort workers.now }
+    requires short { IsShortFile workers.now }
     requires table { IsKindTable table.now (kinds_of config.now) }
-    ensures { AddsFor result out.old out.new (Reads workers.now.text.now)
+    ensures { AddsFor result out.old out.new (ReadsProperties workers.now.text.now)
         (workers_remarks effects workers.now.name.now config.now) }
 {
     if effects {
@@ -174,7 +174,7 @@ fn put_accepted<O: Sink + Drop>(
     effects: bool,
 ) -> Result<(), IoError>
     requires short { AreShort files.now }
-    ensures { AddsFor result out.old out.new (Reads files.now.workers.text.now) (site_remarks effects files.now config.now) }
+    ensures { AddsFor result out.old out.new (ReadsProperties files.now.workers.text.now) (site_remarks effects files.now config.now) }
 {
     let table = kind_table(alloc, config)?;
     put_workers(alloc, out, config, &table, &files.workers, effects)?;

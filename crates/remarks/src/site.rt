@@ -3,7 +3,7 @@ ghost use Rattle.std.specs.Prelude.{◌≡◌, IfSome};
 ghost use Rattle.std.specs.Option.{option_map};
 ghost use Rattle.remarks.specs.Told.{SaysBoth, SaysEffects, SaysEffectsAt, SaysPlaced, SaysSite, map_among, site_place, text_of};
 ghost use Rattle.remarks.specs.Added.{AddsSome};
-ghost use Rattle.remarks.specs.Remarks.{IsShort, as_file};
+ghost use Rattle.remarks.specs.Remarks.{IsShortFile, as_file};
 
 use crate::read_file::ReadFile;
 use crate::remark_out::RemarkOut;
@@ -43,7 +43,7 @@ pub(crate) fn site_place(command: Option<CommandName>) -> Option<SitePlace>
 
 fn file_of(read: &ReadFile) -> Option<SiteFile<'_>>
     ensures text { option_map as_file result ≡ text_of read.now }
-    ensures short { IfSome result IsShort }
+    ensures short { IfSome result IsShortFile }
 {
     match &read.text {
         Some(text) => Some(SiteFile {
@@ -57,7 +57,7 @@ fn file_of(read: &ReadFile) -> Option<SiteFile<'_>>
 /// The file that was read first, if it was read.
 fn map_of(reads: &[ReadFile]) -> Option<SiteFile<'_>>
     ensures text { option_map as_file result ≡ map_among reads.now }
-    ensures short { IfSome result IsShort }
+    ensures short { IfSome result IsShortFile }
 {
     match reads {
         [] => None,

@@ -2,8 +2,8 @@
 ghost use Rattle.std.specs.Prelude.{Ok};
 ghost use Rattle.site_mounts.specs.Lines.{read_text};
 ghost use Rattle.remarks.specs.Added.{AddsFor, AddsSome};
-ghost use Rattle.remarks.specs.Again.{Reads};
-ghost use Rattle.remarks.specs.Remarks.{AreEffects, IsShort, as_file, effects_over};
+ghost use Rattle.remarks.specs.Again.{ReadsProperties};
+ghost use Rattle.remarks.specs.Remarks.{AreEffects, IsShortFile, as_file, effects_over};
 
 use crate::kinds::kind_table;
 use crate::map_effects::put_map_effects;
@@ -25,9 +25,9 @@ fn put_both<O: Sink + Drop>(
     workers: &SiteFile<'_>,
     map: &SiteFile<'_>,
 ) -> Result<(), IoError>
-    requires workers { IsShort workers.now }
-    requires map { IsShort map.now }
-    ensures { AddsFor result out.old out.new (Reads workers.now.text.now)
+    requires workers { IsShortFile workers.now }
+    requires map { IsShortFile map.now }
+    ensures { AddsFor result out.old out.new (ReadsProperties workers.now.text.now)
         (effects_over config.now (as_file workers.now) (as_file map.now) (Ok rules.now)) }
 {
     let table = kind_table(alloc, config)?;
@@ -43,9 +43,9 @@ fn put_over<O: Sink + Drop>(
     workers: &SiteFile<'_>,
     map: &SiteFile<'_>,
 ) -> Result<(), IoError>
-    requires workers { IsShort workers.now }
-    requires map { IsShort map.now }
-    ensures { AddsFor result out.old out.new (Reads workers.now.text.now)
+    requires workers { IsShortFile workers.now }
+    requires map { IsShortFile map.now }
+    ensures { AddsFor result out.old out.new (ReadsProperties workers.now.text.now)
         (effects_over config.now (as_file workers.now) (as_file map.now) (read_text config.now map.now.text.now)) }
 {
     match read_map(alloc, map.text, config) {
@@ -62,8 +62,8 @@ pub(crate) fn site_effects<O: Sink + Drop>(
     workers: &SiteFile<'_>,
     map: &SiteFile<'_>,
 ) -> Result<(), IoError>
-    requires workers { IsShort workers.now }
-    requires map { IsShort map.now }
+    requires workers { IsShortFile workers.now }
+    requires map { IsShortFile map.now }
     ensures { AddsSome result out.old out.new (AreEffects (as_file workers.now) (as_file map.now)) }
 {
     match read_workers(alloc, workers.text) {

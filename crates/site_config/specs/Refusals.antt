@@ -23,10 +23,10 @@ abbrev pub refusal : ℕ → PropsReason → LineRefusal
 refusal line why = record { line = line; code = code_of why }
 
 -- a call's answer is what reading gives, unless memory was wanted
-abbrev pub Gives : {X Y : Type 0} → (X → Y) → Result X PropsError → Result Y LineRefusal → Type 0
-Gives view (Ok x) read = read ≡ Ok (view x)
-Gives view (Err (errors.Refused line code)) read = read ≡ Err (record { line = line; code = code })
-Gives view (Err errors.NoMemory) read = Unit {0}
+abbrev pub AnswersWorkers : {X Y : Type 0} → (X → Y) → Result X PropsError → Result Y LineRefusal → Type 0
+AnswersWorkers view (Ok x) read = read ≡ Ok (view x)
+AnswersWorkers view (Err (errors.Refused line code)) read = read ≡ Err (record { line = line; code = code })
+AnswersWorkers view (Err errors.NoMemory) read = Unit {0}
 
 -- `so` holds of the refusal of a call's error; want of memory may come
 abbrev pub IsRefusal : (LineRefusal → Type 0) → PropsError → Type 0

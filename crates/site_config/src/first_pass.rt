@@ -2,7 +2,7 @@
 ghost use Rattle.std.specs.Prelude.{◌≡◌, ◌≤◌, length, map, vec_len, IfOk};
 ghost use Rattle.std.specs.Option.{option_map, option_to_list};
 ghost use Rattle.site_config.specs.Entries.{as_property, as_properties};
-ghost use Rattle.site_config.specs.Refusals.{Gives, code_of};
+ghost use Rattle.site_config.specs.Refusals.{AnswersWorkers, code_of};
 ghost use Rattle.site_config.specs.Properties.{is_silent, judged, property_of, said, read_text, fault_of};
 ghost use Rattle.site_config.specs.Cut.{cut_at};
 ghost use Rattle.jk_io.specs.declared.whole_input.TheConstants.{MAX_INPUT_BYTES};
@@ -29,7 +29,7 @@ fn judged<'t>(
     entry: PropertyLine<'t>,
     fault: Option<Fault>,
 ) -> Result<Option<PropertyLine<'t>>, PropsError>
-    ensures { Gives (option_map as_property) result (judged values (as_property entry.entry) fault) }
+    ensures { AnswersWorkers (option_map as_property) result (judged values (as_property entry.entry) fault) }
 {
     match fault {
         None => Ok(Some(entry)),
@@ -46,7 +46,7 @@ fn judged<'t>(
 
 /// What a trimmed line says; a bad value is refused where `values` is on.
 pub fn said(values: bool, line: u32, text: &[u8]) -> Result<Option<PropertyLine<'_>>, PropsError>
-    ensures { Gives (option_map as_property) result (said values line text.now) }
+    ensures { AnswersWorkers (option_map as_property) result (said values line text.now) }
 {
     if is_silent(text) {
         return Ok(None);
@@ -67,7 +67,7 @@ pub fn read_entries(
     text: &[u8],
 ) -> Result<Vec<PropertyLine<'_>>, PropsError>
     requires { length text.now ≤ MAX_INPUT_BYTES }
-    ensures entries { Gives (λ v. as_properties v.items) result (read_text values text.now) }
+    ensures entries { AnswersWorkers (λ v. as_properties v.items) result (read_text values text.now) }
     ensures few { IfOk result (λ v. vec_len v ≤ length text.now) }
 {
     let mut entries = Vec::new(alloc);

@@ -1,7 +1,7 @@
 //! The properties of a workers.properties.
 ghost use Rattle.std.specs.Prelude.{◌≡◌, ◌≤◌, false, length, IfOk};
 ghost use Rattle.site_config.specs.Entries.{as_property};
-ghost use Rattle.site_config.specs.Refusals.{Gives};
+ghost use Rattle.site_config.specs.Refusals.{AnswersWorkers};
 ghost use Rattle.site_config.specs.Properties.{read_text};
 ghost use Rattle.jk_io.specs.declared.whole_input.TheConstants.{MAX_INPUT_BYTES};
 
@@ -16,7 +16,7 @@ use std::alloc::Global;
 /// aren't.
 pub fn read_properties(alloc: Global, text: &[u8]) -> Result<PropertyList, PropsError>
     requires { length text.now ≤ MAX_INPUT_BYTES }
-    ensures { Gives (λ properties. properties) result (read_text false text.now) }
+    ensures { AnswersWorkers (λ properties. properties) result (read_text false text.now) }
 {
     let entries = read_entries(alloc, false, text)?;
     let mut properties = Vec::with_capacity(alloc, entries.len())?;

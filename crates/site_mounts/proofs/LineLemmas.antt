@@ -26,7 +26,7 @@ use Rattle.site_mounts.specs.declared.rule.Role.TheVariants as role
 use Rattle.site_mounts.specs.Lines.{before_rest, with_rules, read_lines, read_text, said, rules_of, rules_at, rules_with, made_rules, role_of, role_in, excluded_worker, known, mount_with, mount_at, terms_at}
 use Rattle.site_mounts.specs.Members.{members_at, members_in}
 use Rattle.site_mounts.specs.Parts.{disabled, is_good, last_value, names_in, parts_of, pieces_of, stopped, terms_of}
-use Rattle.site_mounts.specs.Refusals.{Gives, or_refused}
+use Rattle.site_mounts.specs.Refusals.{AnswersMap, or_refused}
 use Rattle.site_mounts.specs.Sides.{Left, left_of, patterns_of}
 use Rattle.site_mounts.specs.Sites.{is_worker, member_count, names_members, role_stands_in, stands_in}
 use Rattle.site_mounts.proofs.MemberLemmas.{set_of-below}
@@ -155,12 +155,12 @@ read_ended config rules line text [] h e = sym e ∙ ap (λ (xs : List Rule). Ok
 read_ended config rules line text (b ∷ bs) h e = absurd (omega arith)
 
 -- the first line that is refused is what reading gives
-pub refused_line : (view : Unit {0} → List Rule) (rules : List Rule) (line rest : Result (List Rule) LineRefusal) (error : MapError) → Gives view (Err error) (with_rules rules line) → Gives {X = List Rule} (λ map. map) (Err error) (with_rules rules (before_rest line rest))
+pub refused_line : (view : Unit {0} → List Rule) (rules : List Rule) (line rest : Result (List Rule) LineRefusal) (error : MapError) → AnswersMap view (Err error) (with_rules rules line) → AnswersMap {X = List Rule} (λ map. map) (Err error) (with_rules rules (before_rest line rest))
 refused_line view rules line rest (errors.Refused number code) h =
     with_refused rules line rest (record { line = number; code = code }) h
 refused_line view rules line rest errors.NoMemory h = tt
 
 -- an error that a call hands on
-pub handed_on : (answer : Result (List Rule) MapError) (error : MapError) (read : Result (List Rule) LineRefusal) → IsErrAnd answer (λ e. e ≡ error) → Gives (λ map. map) (Err error) read → Gives (λ map. map) answer read
+pub handed_on : (answer : Result (List Rule) MapError) (error : MapError) (read : Result (List Rule) LineRefusal) → IsErrAnd answer (λ e. e ≡ error) → AnswersMap (λ map. map) (Err error) read → AnswersMap (λ map. map) answer read
 handed_on (Ok map) error read h g = absurd h
-handed_on (Err e) error read h g = subst (λ (x : MapError). Gives {X = List Rule} (λ map. map) (Err x) read) (sym h) g
+handed_on (Err e) error read h g = subst (λ (x : MapError). AnswersMap {X = List Rule} (λ map. map) (Err x) read) (sym h) g

@@ -15,10 +15,10 @@ abbrev pub refusal : ℕ → MapReason → LineRefusal
 refusal line why = record { line = line; code = code_of why }
 
 -- a call's answer is what reading gives, unless memory was wanted
-abbrev pub Gives : {X Y : Type 0} → (X → Y) → Result X MapError → Result Y LineRefusal → Type 0
-Gives view (Ok x) read = read ≡ Ok (view x)
-Gives view (Err (errors.Refused line code)) read = read ≡ Err (record { line = line; code = code })
-Gives view (Err errors.NoMemory) read = Unit {0}
+abbrev pub AnswersMap : {X Y : Type 0} → (X → Y) → Result X MapError → Result Y LineRefusal → Type 0
+AnswersMap view (Ok x) read = read ≡ Ok (view x)
+AnswersMap view (Err (errors.Refused line code)) read = read ≡ Err (record { line = line; code = code })
+AnswersMap view (Err errors.NoMemory) read = Unit {0}
 
 -- the number of what a line is refused for, if it is
 abbrev pub code_in : {X : Type 0} → Result X LineRefusal → Option ℕ

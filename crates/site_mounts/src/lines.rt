@@ -3,7 +3,7 @@ ghost use Rattle.std.specs.Prelude.{◌≡◌, ◌≤◌, ◌+◌, ◌++◌, map
 ghost use Rattle.std.specs.Option.{option_map};
 ghost use Rattle.site_config.specs.Properties.{is_silent};
 ghost use Rattle.site_mounts.specs.Lines.{made_rules, read_text, rules_of, said, with_rules};
-ghost use Rattle.site_mounts.specs.Refusals.{Gives, code_in};
+ghost use Rattle.site_mounts.specs.Refusals.{AnswersMap, code_in};
 ghost use Rattle.site_mounts.specs.Sides.{as_patterns};
 ghost use Rattle.site_mounts.specs.Sites.{stands_in};
 ghost use Rattle.jk_io.specs.declared.whole_input.TheConstants.{MAX_INPUT_BYTES};
@@ -72,7 +72,7 @@ fn push_sides(
     left: &[u8],
     right: &[u8],
 ) -> Result<(), MapError>
-    ensures read { Gives (λ _. out.new.items) result
+    ensures read { AnswersMap (λ _. out.new.items) result
         (with_rules out.old.items (rules_of workers.now line (Some (left.now, right.now)))) }
     ensures count { OnOk result (length out.new.items ≤ length out.old.items + 2) }
 {
@@ -95,7 +95,7 @@ fn push_line(
     line: u32,
     text: &[u8],
 ) -> Result<(), MapError>
-    ensures read { Gives (λ _. out.new.items) result
+    ensures read { AnswersMap (λ _. out.new.items) result
         (with_rules out.old.items (said workers.now line text.now)) }
     ensures count { OnOk result (length out.new.items ≤ length out.old.items + 2) }
 {
@@ -128,7 +128,7 @@ pub fn refusal_of(
 /// The map of a text, or its first refusal.
 pub fn read_map(alloc: Global, text: &[u8], config: &Config) -> Result<UriMap, MapError>
     requires { length text.now ≤ MAX_INPUT_BYTES }
-    ensures read { Gives (λ map. map) result (read_text config.now text.now) }
+    ensures read { AnswersMap (λ map. map) result (read_text config.now text.now) }
 
     // All that the map names stands in the configuration.
     ensures stands { IfOk result (λ map. stands_in config.now map ≡ true) }

@@ -4,7 +4,7 @@ ghost use Rattle.std.specs.Option.{option_map, option_and_then};
 ghost use Rattle.site_mounts.specs.Lines.{exclusion_of, known, mount_of, role_of, terms_at};
 ghost use Rattle.site_mounts.specs.PartViews.{as_parts};
 ghost use Rattle.site_mounts.specs.Parts.{parts_of, pieces_behind, pieces_of};
-ghost use Rattle.site_mounts.specs.Refusals.{Gives};
+ghost use Rattle.site_mounts.specs.Refusals.{AnswersMap};
 
 use crate::error::{MapError, MapReason, refused};
 use crate::parts::{Part, given_terms, parts_behind};
@@ -17,7 +17,7 @@ use std::alloc::Global;
 
 /// The listed worker of this name.
 fn known(workers: &Workers<'_>, line: u32, name: &[u8]) -> Result<Named, MapError>
-    ensures { Gives (λ worker. worker) result (known workers.now line name.now) }
+    ensures { AnswersMap (λ worker. worker) result (known workers.now line name.now) }
 {
     match workers.find(name) {
         Some(worker) => Ok(worker),
@@ -26,7 +26,7 @@ fn known(workers: &Workers<'_>, line: u32, name: &[u8]) -> Result<Named, MapErro
 }
 
 fn exclusion_of(workers: &Workers<'_>, line: u32, name: &[u8]) -> Result<Role, MapError>
-    ensures { Gives (λ role. role) result (exclusion_of workers.now line name.now) }
+    ensures { AnswersMap (λ role. role) result (exclusion_of workers.now line name.now) }
 {
     if name == b"*".as_slice() {
         Ok(Role::Exclusion(None))
@@ -73,7 +73,7 @@ fn mount_of(
     name: &[u8],
     text: Option<&[u8]>,
 ) -> Result<Role, MapError>
-    ensures { Gives (λ role. role) result (mount_of workers.now line name.now
+    ensures { AnswersMap (λ role. role) result (mount_of workers.now line name.now
         (pieces_behind (option_map (λ t. t.now) text.entry))) }
 {
     let worker = known(workers, line, name)?;
@@ -101,7 +101,7 @@ pub(crate) fn role_of(
     exclusion: bool,
     text: &[u8],
 ) -> Result<Role, MapError>
-    ensures { Gives (λ role. role) result (role_of workers.now line exclusion text.now) }
+    ensures { AnswersMap (λ role. role) result (role_of workers.now line exclusion text.now) }
 {
     let (name, parts) = split_parts(text);
     if exclusion {

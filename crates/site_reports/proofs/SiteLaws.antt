@@ -8,7 +8,7 @@ use Rattle.site_reports.specs.Reports.{OfMap, refusal_line, rules_line}
 use Rattle.site_mounts.specs.Lines.{read_text}
 use Rattle.site_mounts.specs.declared.rule.Rule.{Rule}
 use Rattle.site_workers.specs.Site.{IsConfig}
-use Rattle.site_reports.specs.Sites.{IsJudged, Judges}
+use Rattle.site_reports.specs.Sites.{IsJudgedSite, Judges}
 use Rattle.site_reports.specs.declared.reading.Judged.{Judged}
 use Rattle.site_reports.specs.declared.reading.Judged.TheVariants as judged
 
@@ -24,7 +24,7 @@ refused_map workers map cfg r (Ok j) config refused is =
 
 -- both files were read whole, and their texts were judged
 pub judged_so : (outside : CommandOutside) (workers map workers_text map_text : List ℕ) (j : Judged) → IsRead outside (File workers) workers_text → IsRead outside (File map) map_text
-    → Judges workers_text map_text j → IsJudged outside workers map j
+    → Judges workers_text map_text j → IsJudgedSite outside workers map j
 judged_so outside workers map workers_text map_text (judged.Site site) first second j = record {
   workers_text = workers_text;
   map_text = map_text;
@@ -37,10 +37,10 @@ judged_so outside workers map workers_text map_text (judged.Refused line) first 
 
 -- the first file is too long, or the second
 pub first_long : (outside : CommandOutside) (workers map : List ℕ) (j : Judged) → IsLong outside (File workers)
-    → j ≡ judged.Refused (codes "too long\n") → IsJudged outside workers map j
+    → j ≡ judged.Refused (codes "too long\n") → IsJudgedSite outside workers map j
 first_long outside workers map j long is = rw is (inl (record { long = inl long; said = refl }))
 
 pub second_long : (outside : CommandOutside) (workers map text : List ℕ) (j : Judged) → IsRead outside (File workers) text
-    → IsLong outside (File map) → j ≡ judged.Refused (codes "too long\n") → IsJudged outside workers map j
+    → IsLong outside (File map) → j ≡ judged.Refused (codes "too long\n") → IsJudgedSite outside workers map j
 second_long outside workers map text j first long is =
     rw is (inl (record { long = inr (text, first, inl long); said = refl }))

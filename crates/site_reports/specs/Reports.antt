@@ -6,7 +6,7 @@ use Rattle.site_config.specs.declared.config.Config.{Config}
 use Rattle.site_mounts.specs.Lines.{read_text}
 use Rattle.site_mounts.specs.Mounts.{line_count}
 use Rattle.site_mounts.specs.declared.rule.Rule.{Rule}
-use Rattle.site_workers.specs.Site.{IsConfig, IsRefused}
+use Rattle.site_workers.specs.Site.{IsConfig, IsRefusedText}
 use Rattle.site_reports.specs.ConfigText.{config_text}
 use Rattle.site_reports.specs.Matches.{match_text}
 use Rattle.site_reports.specs.Readings.{AreRead, CommandOutside, File, StopsLong}
@@ -19,18 +19,18 @@ abbrev pub rules_line : List Rule → List ℕ
 rules_line rules = codes "rules " ++ decimal (line_count rules) ++ codes "\n"
 
 -- a file was refused: its line alone is printed
-abbrev pub Refuses : (file : List ℕ) → LineRefusal → (out : List ℕ) → (refused : Bool) → Type 0
-Refuses file r out refused = (out ≡ refusal_line file r) × (refused ≡ true)
+abbrev pub PrintsRefusal : (file : List ℕ) → LineRefusal → (out : List ℕ) → (refused : Bool) → Type 0
+PrintsRefusal file r out refused = (out ≡ refusal_line file r) × (refused ≡ true)
 
 -- the refusal of a workers.properties, or what is printed of its configuration
 abbrev pub OfWorkers : (workers : List ℕ) → (Config → List ℕ → Bool → Type 0) → (out : List ℕ) → (refused : Bool) → Type 0
 OfWorkers workers of out refused =
-    ((r : LineRefusal) × IsRefused workers r × Refuses (codes "workers") r out refused)
+    ((r : LineRefusal) × IsRefusedText workers r × PrintsRefusal (codes "workers") r out refused)
     ⊎ ((c : Config) × IsConfig workers c × of c out refused)
 
 -- the refusal of a uriworkermap.properties, or what is printed of its rules
 abbrev pub OfMap : Config → Result (List Rule) LineRefusal → (List Rule → List ℕ) → (out : List ℕ) → (refused : Bool) → Type 0
-OfMap c (Err r) of out refused = Refuses (codes "map") r out refused
+OfMap c (Err r) of out refused = PrintsRefusal (codes "map") r out refused
 OfMap c (Ok rules) of out refused = (out ≡ of rules) × (refused ≡ false)
 
 -- `config` of a workers.properties alone

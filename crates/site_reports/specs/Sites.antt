@@ -24,6 +24,6 @@ Judges workers map (judged.Site site) = IsConfig workers site.cfg × (read_text 
 Judges workers map (judged.Refused line) = ReportsSite workers map line true
 
 -- the files of these names
-abbrev pub IsJudged : CommandOutside → (workers map : List ℕ) → Judged → Type 0
-IsJudged outside workers map (judged.Site site) = IsSite outside workers map site.cfg site.map
-IsJudged outside workers map (judged.Refused line) = RefusesSite outside workers map line
+abbrev pub IsJudgedSite : CommandOutside → (workers map : List ℕ) → Judged → Type 0
+IsJudgedSite outside workers map (judged.Site site) = IsSite outside workers map site.cfg site.map
+IsJudgedSite outside workers map (judged.Refused line) = RefusesSite outside workers map line

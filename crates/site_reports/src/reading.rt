@@ -4,7 +4,7 @@ ghost use Rattle.jk_io.specs.Stored.{content_of};
 ghost use Rattle.jk_io.specs.Told.{HasCause};
 ghost use Rattle.site_reports.specs.Reports.{refusal_line};
 ghost use Rattle.jk_io.specs.declared.whole_input.TheConstants.{MAX_INPUT_BYTES};
-ghost use Rattle.site_reports.specs.Sites.{IsJudged, Judges};
+ghost use Rattle.site_reports.specs.Sites.{IsJudgedSite, Judges};
 
 use crate::site::ReadSite;
 use jk_io::{Bytes, FileError, Files, IoError, NoMemory, put_decimal};
@@ -82,7 +82,7 @@ pub fn read_site<F: Files>(
     map: &Bytes,
 ) -> Result<Judged, IoError>
     ensures ok { IfOk result (λ judged. (incoming : Option (List ℕ))
-        → IsJudged (record { files = F.files files.old; incoming = incoming }) workers.now map.now judged) }
+        → IsJudgedSite (record { files = F.files files.old; incoming = incoming }) workers.now map.now judged) }
     ensures cause { HasCause (F.faults files.old) (F.faults files.new) result }
 {
     let Some(workers) = text_of(alloc, files, workers)? else {

@@ -4,7 +4,7 @@ ghost use Rattle.site_config.specs.Refusals.{LineRefusal};
 ghost use Rattle.site_mounts.specs.Lines.{read_text};
 ghost use Rattle.site_reports.specs.ConfigText.{config_text};
 ghost use Rattle.site_reports.specs.Matches.{match_text};
-ghost use Rattle.site_reports.specs.Reports.{OfMap, Refuses, ReportsConfig, ReportsMatches, ReportsSite, rules_line};
+ghost use Rattle.site_reports.specs.Reports.{OfMap, PrintsRefusal, ReportsConfig, ReportsMatches, ReportsSite, rules_line};
 ghost use Rattle.jk_io.specs.declared.whole_input.TheConstants.{MAX_INPUT_BYTES};
 
 use crate::config_text::put_config;
@@ -25,7 +25,7 @@ pub struct Report {
 
 // The first refusal of a file.
 fn refused(alloc: Global, file: &[u8], line: u32, code: u8) -> Result<Report, NoMemory>
-    ensures { IfOk result (λ r. Refuses file.now (record { line = line; code = code }) r.text r.refused) }
+    ensures { IfOk result (λ r. PrintsRefusal file.now (record { line = line; code = code }) r.text r.refused) }
 {
     let mut text = Bytes::new(alloc);
     text.extend(file)?;

@@ -11,7 +11,7 @@ use Rattle.site_config.specs.declared.error.PropsError.{PropsError}
 use Rattle.site_config.specs.declared.error.PropsError.TheVariants as errors
 use Rattle.site_config.specs.Directives.{name_of, worker_part}
 use Rattle.site_config.specs.Refusals.{LineRefusal, IsRefusal}
-use Rattle.site_workers.specs.Ways.{IsBroken}
+use Rattle.site_workers.specs.Ways.{IsBrokenWalk}
 use Rattle.site_workers.specs.Given.{IsChain, concerns, gives, is_given, is_among, last_given, names_both, names_worker, target_at, target_in, not_passed, Walks, BreaksAt}
 
 -- a worker has one chain
@@ -99,10 +99,10 @@ pub unknown_chain : (ps : List Property) (name : List ℕ) → is_given ps name 
 unknown_chain ps name e = ap target_in (none_given ps name directive.Reference e)
 
 -- a worker whose references end meets no broken reference
-pub not_broken : (ps : List Property) (name : List ℕ) (more : List (List ℕ)) (so : LineRefusal → Type 0) (e : PropsError) → IsChain ps name more → IsBroken ps name e → IsRefusal so e
+pub not_broken : (ps : List Property) (name : List ℕ) (more : List (List ℕ)) (so : LineRefusal → Type 0) (e : PropsError) → IsChain ps name more → IsBrokenWalk ps name e → IsRefusal so e
 not_broken ps name more so (errors.Refused line code) chain broken = absurd (chain_or_break ps name more line chain broken.0)
 not_broken ps name more so errors.NoMemory chain broken = tt
 
-pub only_memory : (ps : List Property) (name : List ℕ) (more : List (List ℕ)) (e : PropsError) → IsChain ps name more → IsBroken ps name e → e ≡ errors.NoMemory
+pub only_memory : (ps : List Property) (name : List ℕ) (more : List (List ℕ)) (e : PropsError) → IsChain ps name more → IsBrokenWalk ps name e → e ≡ errors.NoMemory
 only_memory ps name more (errors.Refused line code) chain broken = absurd (chain_or_break ps name more line chain broken.0)
 only_memory ps name more errors.NoMemory chain broken = refl

@@ -13,7 +13,7 @@ use Rattle.site_workers.specs.Lists.{Listing}
 use Rattle.site_workers.specs.Listings.{as_listing, as_listings}
 use Rattle.site_workers.specs.Rows.{HasForce, property_at}
 use Rattle.site_workers.specs.Settings.{kind_in}
-use Rattle.site_workers.specs.Site.{Each, FirstBad, Known, Refuses, RefusesKind}
+use Rattle.site_workers.specs.Site.{Each, FirstBad, Known, RefusesListing, RefusesKind}
 use Rattle.site_workers.proofs.WorkerLemmas.{force_lines, wider_refusal}
 
 pub each_at : (fine : Listing → Type 0) (ls : List declared.Listing) (i : ℕ) (d : declared.Listing) → i < length ls → Each fine (as_listings ls) → fine (as_listing (get_or ls i d))
@@ -45,5 +45,5 @@ pub checked_starts : (fine : Listing → Type 0) (bad : Listing → LineRefusal 
 checked_starts fine bad ls = record { each = λ h. h; first = λ r h. h }
 
 -- what is refused of a worker by its row is refused of it
-pub refuses_kind : (ps : List Property) (count : ℕ) (l : Listing) (row : Row) (r : LineRefusal) → Known ps l → HasForce ps l.name row → RefusesKind ps count l (property_at ps row) (kind_in (property_at ps row directive.Kind)) r → Refuses ps count l r
+pub refuses_kind : (ps : List Property) (count : ℕ) (l : Listing) (row : Row) (r : LineRefusal) → Known ps l → HasForce ps l.name row → RefusesKind ps count l (property_at ps row) (kind_in (property_at ps row directive.Kind)) r → RefusesListing ps count l r
 refuses_kind ps count l row r known h a = inr (inr (known, h.0, h.1, subst (λ (v : Directive → Option Property). RefusesKind ps count l v (kind_in (v directive.Kind)) r) (force_lines ps l.name row h) a))

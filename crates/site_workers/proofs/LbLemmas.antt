@@ -1,6 +1,6 @@
 -- The members of an lb worker, looked at one by one, and the balancer that is made of them.
 use Rattle.std.proofs.Common.{◌≡◌, ◌≤◌, ℕ, Bool, true, false, List, length, map, Option, Result, Ok, Err, IfOk, IfErr, OnErr, codes, sym, ◌∙◌, subst, inl, inr, ⊎_elim}
-use Rattle.lb_model.specs.Ranges.{AreInRange, IsPeriod, IsRefused}
+use Rattle.lb_model.specs.Ranges.{AreInRange, IsPeriod, IsRefusedConfig}
 use Rattle.lb_model.specs.declared.config.LbConfig.{LbConfig}
 use Rattle.lb_model.specs.declared.config_error.ConfigError.{ConfigError}
 use Rattle.lb_model.specs.declared.member.MemberConfig.{MemberConfig}
@@ -40,7 +40,7 @@ is_book v maintain ms m sticky force recover (Ok b) em es ef er flags times same
 is_book v maintain ms m sticky force recover (Err e) em es ef er flags times same = tt
 
 -- its refusal
-pub is_too_wide : (maintain recover : ℕ) (ms : List MemberConfig) (r : Result LbConfig ConfigError) → 1 ≤ length ms → length ms ≤ 64 → AreInRange ms → IsPeriod maintain → IsPeriod recover → IfErr r (IsRefused maintain recover ms) → OnErr r (AreTooWide ms)
+pub is_too_wide : (maintain recover : ℕ) (ms : List MemberConfig) (r : Result LbConfig ConfigError) → 1 ≤ length ms → length ms ≤ 64 → AreInRange ms → IsPeriod maintain → IsPeriod recover → IfErr r (IsRefusedConfig maintain recover ms) → OnErr r (AreTooWide ms)
 is_too_wide maintain recover ms (Ok b) some few within m p h = tt
 is_too_wide maintain recover ms (Err e) some few within m p h = book_refused maintain recover ms e some few within m p h
 

@@ -24,7 +24,7 @@ use Rattle.site_workers.specs.declared.draft.Draft.{Draft}
 use Rattle.site_workers.specs.Given.{in_force}
 use Rattle.site_workers.specs.Lists.{Listing, firsts, site_list, members_in}
 use Rattle.site_workers.specs.Settings.{AreLimits, IsEndpoint, IsMember, kind_in, shared, text_in, text_or}
-use Rattle.site_workers.specs.Site.{AreMembers, routes_of, IsLb, IsDirect, Adds, AddsKind, Builds, with_lb, with_status, no_workers, draft_of, maintain_of, ignored_of, IsConfig}
+use Rattle.site_workers.specs.Site.{AreMembers, routes_of, IsLb, IsDirect, AddsListing, AddsKind, Builds, with_lb, with_status, no_workers, draft_of, maintain_of, ignored_of, IsConfig}
 use Rattle.site_workers.proofs.ChainLemmas.{chain_one}
 
 -- values with the same fields are the same; what a type keeps of them besides has one proof
@@ -223,7 +223,7 @@ kind_one ps maintain l v kind.Lb old a b x y =
     let members = firsts (members_in ps (v directive.BalanceWorkers)) in
     x.5 ∙ ap (λ (lb : Lb). with_lb old l.name lb) (lb_one ps v maintain l.name members x.3 y.3 x.4 y.4) ∙ sym y.5
 
-pub adds_one : (ps : List Property) (maintain : ℕ) (l : Listing) (old a b : Draft) → Adds ps maintain l old a → Adds ps maintain l old b → a ≡ b
+pub adds_one : (ps : List Property) (maintain : ℕ) (l : Listing) (old a b : Draft) → AddsListing ps maintain l old a → AddsListing ps maintain l old b → a ≡ b
 adds_one ps maintain l old a b x y =
     let chains = chain_one ps l.name y.1 x.1 y.2 x.2 in
     let also : AddsKind ps maintain l (in_force ps l.name x.1) (kind_in (in_force ps l.name x.1 directive.Kind)) old b =

@@ -20,7 +20,7 @@ use Rattle.site_workers.specs.declared.draft.Draft.{Draft}
 use Rattle.site_workers.specs.Given.{IsChain, in_force, is_given, last_given, target_at, not_passed, Walks, BreaksAt}
 use Rattle.site_workers.specs.Lists.{Listing, firsts, site_list, members_in}
 use Rattle.site_workers.specs.Settings.{kind_in}
-use Rattle.site_workers.specs.Site.{AreMembers, routes_of, IsLb, Each, FirstBad, HasKind, Breaks, IsUnknown, IsNoAjp13, Chained, Known, IsAjp13, RefusesBook, RefusesLb, RefusesKind, Refuses, line_in, Adds, AddsKind, Builds, Stops, no_workers, draft_of, maintain_of, IsConfig, IsRefused}
+use Rattle.site_workers.specs.Site.{AreMembers, routes_of, IsLb, Each, FirstBad, HasKind, Breaks, IsUnknown, IsNoAjp13, Chained, Known, IsAjp13, RefusesBook, RefusesLb, RefusesKind, RefusesListing, line_in, AddsListing, AddsKind, Builds, StopsAtListing, no_workers, draft_of, maintain_of, IsConfig, IsRefusedText}
 use Rattle.site_workers.proofs.ChainLemmas.{chain_one, chain_or_break, unknown_chain}
 use Rattle.site_workers.proofs.OneConfig.{members_counted, same_members, adds_one, same_properties}
 
@@ -241,7 +241,7 @@ module _ (ps : List Property) where
       subst (λ (c : List (List ℕ)). RefusesKind ps count l (in_force ps l.name c) (kind_in (in_force ps l.name c directive.Kind)) s) chains y.3 in
       kind_one count l (in_force ps l.name x.1) (kind_in (in_force ps l.name x.1 directive.Kind)) r s x.3 also
 
-  refuses_one : (count : ℕ) (l : Listing) (r s : LineRefusal) → Refuses ps count l r → Refuses ps count l s → r ≡ s
+  refuses_one : (count : ℕ) (l : Listing) (r s : LineRefusal) → RefusesListing ps count l r → RefusesListing ps count l s → r ≡ s
   refuses_one count l =
       either_one (Breaks ps l) (λ r. IsUnknown ps l r ⊎ ByKind count l r) (breaks_one l)
       (either_one (IsUnknown ps l) (ByKind count l) (unknown_one l) (by_kind_one count l) (λ r s x y. never_unknown l r y.0 x))
@@ -282,7 +282,7 @@ module _ (ps : List Property) where
       never_lb (length old.lbs) l v maintain (members_in ps (v directive.BalanceWorkers)) a.3 r a.0 a.1 a.2 a.4 x
 
   -- a worker that is added isn't refused
-  never_refused : (maintain : ℕ) (l : Listing) (old new : Draft) (r : LineRefusal) → Adds ps maintain l old new → Refuses ps (length old.lbs) l r → ⊥
+  never_refused : (maintain : ℕ) (l : Listing) (old new : Draft) (r : LineRefusal) → AddsListing ps maintain l old new → RefusesListing ps (length old.lbs) l r → ⊥
   never_refused maintain l old new r a (inl x) = chain_or_break ps l.name a.1 x.0 a.2 x.1
   never_refused maintain l old new r a (inr (inl x)) = never_unknown l r a.0 x
   never_refused maintain l old new r a (inr (inr x)) =
@@ -291,19 +291,19 @@ module _ (ps : List Property) where
       subst (λ (c : List (List ℕ)). RefusesKind ps (length old.lbs) l (in_force ps l.name c) (kind_in (in_force ps l.name c directive.Kind)) r) chains x.3 in
       never_kind maintain l (in_force ps l.name a.1) (kind_in (in_force ps l.name a.1 directive.Kind)) old new r a.3 also
 
-  stops_one : (maintain : ℕ) (ls : List Listing) (old : Draft) (r s : LineRefusal) → Stops ps maintain ls old r → Stops ps maintain ls old s → r ≡ s
+  stops_one : (maintain : ℕ) (ls : List Listing) (old : Draft) (r s : LineRefusal) → StopsAtListing ps maintain ls old r → StopsAtListing ps maintain ls old s → r ≡ s
   stops_one maintain [] old r s x y = absurd x
   stops_one maintain (l ∷ ls) old r s (inl x) (inl y) = refuses_one (length old.lbs) l r s x y
   stops_one maintain (l ∷ ls) old r s (inl x) (inr y) = absurd (never_refused maintain l old y.0 r y.1 x)
   stops_one maintain (l ∷ ls) old r s (inr x) (inl y) = absurd (never_refused maintain l old x.0 s x.1 y)
   stops_one maintain (l ∷ ls) old r s (inr x) (inr y) =
-      stops_one maintain ls x.0 r s x.2 (subst (λ (d : Draft). Stops ps maintain ls d s) (adds_one ps maintain l old y.0 x.0 y.1 x.1) y.2)
+      stops_one maintain ls x.0 r s x.2 (subst (λ (d : Draft). StopsAtListing ps maintain ls d s) (adds_one ps maintain l old y.0 x.0 y.1 x.1) y.2)
 
-  never_both : (maintain : ℕ) (ls : List Listing) (old new : Draft) (r : LineRefusal) → Builds ps maintain ls old new → Stops ps maintain ls old r → ⊥
+  never_both : (maintain : ℕ) (ls : List Listing) (old new : Draft) (r : LineRefusal) → Builds ps maintain ls old new → StopsAtListing ps maintain ls old r → ⊥
   never_both maintain [] old new r a x = x
   never_both maintain (l ∷ ls) old new r a (inl x) = never_refused maintain l old a.0 r a.1 x
   never_both maintain (l ∷ ls) old new r a (inr x) =
-      never_both maintain ls a.0 new r a.2 (subst (λ (d : Draft). Stops ps maintain ls d r) (adds_one ps maintain l old x.0 a.0 x.1 a.1) x.2)
+      never_both maintain ls a.0 new r a.2 (subst (λ (d : Draft). StopsAtListing ps maintain ls d r) (adds_one ps maintain l old x.0 a.0 x.1 a.1) x.2)
 
 not_both : (a : List Property) (e : LineRefusal) (r : Result (List Property) LineRefusal) → r ≡ Ok a → r ≡ Err e → ⊥
 not_both a e r x y = absurd cc
@@ -312,21 +312,21 @@ same_refusal : (a b : LineRefusal) (r : Result (List Property) LineRefusal) → 
 same_refusal a b r x y = cc
 
 -- a text has one refusal
-pub refusal_one : (text : List ℕ) (r s : LineRefusal) → IsRefused text r → IsRefused text s → r ≡ s
+pub refusal_one : (text : List ℕ) (r s : LineRefusal) → IsRefusedText text r → IsRefusedText text s → r ≡ s
 refusal_one text r s (inl x) (inl y) = same_refusal r s (read_text true text) x y
 refusal_one text r s (inl x) (inr y) = absurd (not_both y.0 r (read_text true text) y.1 x)
 refusal_one text r s (inr x) (inl y) = absurd (not_both x.0 s (read_text true text) x.1 y)
 refusal_one text r s (inr x) (inr y) =
     let ps = same_properties y.0 x.0 (read_text true text) y.1 x.1 in
-    let also : Stops x.0 (maintain_of x.0) (firsts (site_list x.0)) no_workers s =
-    subst (λ (p : List Property). Stops p (maintain_of p) (firsts (site_list p)) no_workers s) ps y.2 in
+    let also : StopsAtListing x.0 (maintain_of x.0) (firsts (site_list x.0)) no_workers s =
+    subst (λ (p : List Property). StopsAtListing p (maintain_of p) (firsts (site_list p)) no_workers s) ps y.2 in
     stops_one x.0 (maintain_of x.0) (firsts (site_list x.0)) no_workers r s x.2 also
 
 -- a text with a configuration has no refusal
-pub config_or_refusal : (text : List ℕ) (c : Config) (r : LineRefusal) → IsConfig text c → IsRefused text r → ⊥
+pub config_or_refusal : (text : List ℕ) (c : Config) (r : LineRefusal) → IsConfig text c → IsRefusedText text r → ⊥
 config_or_refusal text c r a (inl x) = not_both a.properties r (read_text true text) a.read x
 config_or_refusal text c r a (inr x) =
     let ps = same_properties x.0 a.properties (read_text true text) x.1 a.read in
-    let also : Stops a.properties (maintain_of a.properties) (firsts (site_list a.properties)) no_workers r =
-    subst (λ (p : List Property). Stops p (maintain_of p) (firsts (site_list p)) no_workers r) ps x.2 in
+    let also : StopsAtListing a.properties (maintain_of a.properties) (firsts (site_list a.properties)) no_workers r =
+    subst (λ (p : List Property). StopsAtListing p (maintain_of p) (firsts (site_list p)) no_workers r) ps x.2 in
     never_both a.properties (maintain_of a.properties) (firsts (site_list a.properties)) no_workers (draft_of c) r a.workers also

@@ -14,7 +14,7 @@ use Rattle.site_workers.specs.declared.draft.Draft.{Draft}
 use Rattle.site_workers.specs.Given.{IsChain, in_force, is_given, last_given, target_in, target_at, or_else, Walks, BreaksAt}
 use Rattle.site_workers.specs.Lists.{Listing, firsts, members_in, own_members, name_part}
 use Rattle.site_workers.specs.Settings.{IsEndpoint, IsMember, kind_in}
-use Rattle.site_workers.specs.Site.{AreMembers, routes_of, IsLb, IsDirect, Each, FirstBad, HasKind, Breaks, IsUnknown, IsNoAjp13, Chained, Known, IsAjp13, RefusesBook, RefusesLb, RefusesKind, Refuses, Adds, AddsKind, Builds, Stops, with_lb}
+use Rattle.site_workers.specs.Site.{AreMembers, routes_of, IsLb, IsDirect, Each, FirstBad, HasKind, Breaks, IsUnknown, IsNoAjp13, Chained, Known, IsAjp13, RefusesBook, RefusesLb, RefusesKind, RefusesListing, AddsListing, AddsKind, Builds, StopsAtListing, with_lb}
 
 -- what a worker is given, by which lines, and whom its own lists name
 pub record SaySame (ps qs : List Property) : Type 0 where
@@ -155,7 +155,7 @@ kind_refused_same ps qs s count l v kind.Ajp13 r h = h
 kind_refused_same ps qs s count l v kind.Lb r h =
     subst (λ (ls : List Listing). RefusesLb qs count l v ls r) (listed_same ps qs s (v directive.BalanceWorkers)) (lb_refused_same ps qs s count l v (members_in ps (v directive.BalanceWorkers)) r h)
 
-refuses_same : (ps qs : List Property) → SaySame ps qs → (count : ℕ) (l : Listing) (r : LineRefusal) → Refuses ps count l r → Refuses qs count l r
+refuses_same : (ps qs : List Property) → SaySame ps qs → (count : ℕ) (l : Listing) (r : LineRefusal) → RefusesListing ps count l r → RefusesListing qs count l r
 refuses_same ps qs s count l r (inl h) = inl (breaks_same ps qs s l r h)
 refuses_same ps qs s count l r (inr (inl h)) = inr (inl (unknown_same ps qs s l r h))
 refuses_same ps qs s count l r (inr (inr h)) =
@@ -183,7 +183,7 @@ kind_added_same ps qs s maintain l v kind.Ajp13 old new h = (h.0, h.1, direct_sa
 kind_added_same ps qs s maintain l v kind.Lb old new h =
     subst (λ (ls : List Listing). AddsLb qs maintain l v ls old new) (listed_same ps qs s (v directive.BalanceWorkers)) (adds_lb_same ps qs s maintain l v (members_in ps (v directive.BalanceWorkers)) old new h)
 
-adds_same : (ps qs : List Property) → SaySame ps qs → (maintain : ℕ) (l : Listing) (old new : Draft) → Adds ps maintain l old new → Adds qs maintain l old new
+adds_same : (ps qs : List Property) → SaySame ps qs → (maintain : ℕ) (l : Listing) (old new : Draft) → AddsListing ps maintain l old new → AddsListing qs maintain l old new
 adds_same ps qs s maintain l old new h =
     let v = in_force ps l.name h.1 in (
       known_same ps qs s l h.0,
@@ -196,7 +196,7 @@ pub builds_same : (ps qs : List Property) → SaySame ps qs → (maintain : ℕ)
 builds_same ps qs s maintain [] old new h = h
 builds_same ps qs s maintain (l ∷ ls) old new h = (h.0, adds_same ps qs s maintain l old h.0 h.1, builds_same ps qs s maintain ls h.0 new h.2)
 
-pub stops_same : (ps qs : List Property) → SaySame ps qs → (maintain : ℕ) (ls : List Listing) (old : Draft) (r : LineRefusal) → Stops ps maintain ls old r → Stops qs maintain ls old r
+pub stops_same : (ps qs : List Property) → SaySame ps qs → (maintain : ℕ) (ls : List Listing) (old : Draft) (r : LineRefusal) → StopsAtListing ps maintain ls old r → StopsAtListing qs maintain ls old r
 stops_same ps qs s maintain [] old r h = h
 stops_same ps qs s maintain (l ∷ ls) old r (inl h) = inl (refuses_same ps qs s (length old.lbs) l r h)
 stops_same ps qs s maintain (l ∷ ls) old r (inr h) = inr (h.0, adds_same ps qs s maintain l old h.0 h.1, stops_same ps qs s maintain ls h.0 r h.2)

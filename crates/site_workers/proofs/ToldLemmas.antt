@@ -16,13 +16,13 @@ use Rattle.site_config.specs.Directives.{name_of, worker_part, list_key, maintai
 use Rattle.site_config.specs.Entries.{as_properties}
 use Rattle.site_config.specs.Lines.{lines, without_mark}
 use Rattle.site_config.specs.Properties.{before_rest, read_lines, read_text, said, with_properties}
-use Rattle.site_config.specs.Refusals.{Gives, LineRefusal, IsRefusal}
+use Rattle.site_config.specs.Refusals.{AnswersWorkers, LineRefusal, IsRefusal}
 use Rattle.site_config.specs.declared.config.Config.{Config}
 use Rattle.site_workers.specs.declared.draft.Draft.{Draft}
 use Rattle.site_workers.specs.declared.told.Told.{Told}
 use Rattle.site_workers.specs.Given.{concerns, gives, last_of, names_both, names_worker, or_else}
 use Rattle.site_workers.specs.Lists.{Listing, firsts, is_list_line, joined, listings_of, site_list}
-use Rattle.site_workers.specs.Site.{Builds, IsConfig, IsRefused, Stops, draft_of, ignored_of, is_maintain_line, maintain_in, maintain_of, no_workers}
+use Rattle.site_workers.specs.Site.{Builds, IsConfig, IsRefusedText, StopsAtListing, draft_of, ignored_of, is_maintain_line, maintain_in, maintain_of, no_workers}
 use Rattle.site_workers.specs.Told.{AreTold, IsTelling, TakesLine, tells, tells_part, telling}
 use Rattle.site_workers.proofs.SameLemmas.{SaySame, builds_same, stops_same}
 
@@ -109,10 +109,10 @@ builds_told ps new h =
     let timed = subst (λ (m : ℕ). Builds (telling ps) m (firsts (site_list ps)) no_workers new) (maintain_same ps) listed in
     builds_same (telling ps) ps (say_same ps) (maintain_of ps) (firsts (site_list ps)) no_workers new timed
 
-stops_told : (ps : List Property) (r : LineRefusal) → Stops (telling ps) (maintain_of (telling ps)) (firsts (site_list (telling ps))) no_workers r → Stops ps (maintain_of ps) (firsts (site_list ps)) no_workers r
+stops_told : (ps : List Property) (r : LineRefusal) → StopsAtListing (telling ps) (maintain_of (telling ps)) (firsts (site_list (telling ps))) no_workers r → StopsAtListing ps (maintain_of ps) (firsts (site_list ps)) no_workers r
 stops_told ps r h =
-    let listed = subst (λ (ls : List Listing). Stops (telling ps) (maintain_of (telling ps)) ls no_workers r) (listed_same ps) h in
-    let timed = subst (λ (m : ℕ). Stops (telling ps) m (firsts (site_list ps)) no_workers r) (maintain_same ps) listed in
+    let listed = subst (λ (ls : List Listing). StopsAtListing (telling ps) (maintain_of (telling ps)) ls no_workers r) (listed_same ps) h in
+    let timed = subst (λ (m : ℕ). StopsAtListing (telling ps) m (firsts (site_list ps)) no_workers r) (maintain_same ps) listed in
     stops_same (telling ps) ps (say_same ps) (maintain_of ps) (firsts (site_list ps)) no_workers r timed
 
 -- what the lines that tell something give is what the text gives
@@ -131,12 +131,12 @@ config_told text told ignored (Ok c) t workers maintain others =
 config_told text told ignored (Err e) t workers maintain others = tt
 
 pub refused_told : (text : List ℕ) (told : List Property) (ignored : List (ℕ × List ℕ)) (r : Result Config PropsError) → AreTold text told ignored
-    → IfErr r (IsRefusal (Stops told (maintain_of told) (firsts (site_list told)) no_workers)) → IfErr r (IsRefusal (IsRefused text))
+    → IfErr r (IsRefusal (StopsAtListing told (maintain_of told) (firsts (site_list told)) no_workers)) → IfErr r (IsRefusal (IsRefusedText text))
 refused_told text told ignored (Ok c) t stops = tt
 refused_told text told ignored (Err (errors.Refused line code)) t stops =
     let ps = t.properties in
     let r : LineRefusal = record { line = line; code = code } in
-    inr (ps, t.read, stops_told ps r (subst (λ (qs : List Property). Stops qs (maintain_of qs) (firsts (site_list qs)) no_workers r) t.told_are stops))
+    inr (ps, t.read, stops_told ps r (subst (λ (qs : List Property). StopsAtListing qs (maintain_of qs) (firsts (site_list qs)) no_workers r) t.told_are stops))
 refused_told text told ignored (Err errors.NoMemory) t stops = tt
 
 -- one line more
@@ -209,10 +209,10 @@ telling_refused text n rest line behind told ignored (errors.Refused at code) t 
 telling_refused text n rest line behind told ignored errors.NoMemory t e bad = tt
 
 -- a refusal of the first pass is one of the text
-pub refused_first : (text : List ℕ) (e : PropsError) → IsRefusal (λ r. read_text true text ≡ Err r) e → IsRefusal (IsRefused text) e
+pub refused_first : (text : List ℕ) (e : PropsError) → IsRefusal (λ r. read_text true text ≡ Err r) e → IsRefusal (IsRefusedText text) e
 refused_first text (errors.Refused line code) h = inl h
 refused_first text errors.NoMemory h = tt
 
-pub refused_said : (X : Type 0) (view : X → Option Property) (e : PropsError) (read : Result (Option Property) LineRefusal) → Gives view (Err e) read → IsRefusal (λ r. read ≡ Err r) e
+pub refused_said : (X : Type 0) (view : X → Option Property) (e : PropsError) (read : Result (Option Property) LineRefusal) → AnswersWorkers view (Err e) read → IsRefusal (λ r. read ≡ Err r) e
 refused_said X view (errors.Refused line code) read h = h
 refused_said X view errors.NoMemory read h = tt

@@ -19,7 +19,7 @@ use Rattle.site_workers.specs.Listings.{as_listing, as_listings}
 use Rattle.site_config.specs.Refusals.{LineRefusal, IsRefusal}
 use Rattle.site_workers.specs.Rows.{HasForce, property_at}
 use Rattle.site_workers.specs.Settings.{kind_in}
-use Rattle.site_workers.specs.Site.{Adds, AddsKind, Builds, Known, Refuses, Stops}
+use Rattle.site_workers.specs.Site.{AddsListing, AddsKind, Builds, Known, RefusesListing, StopsAtListing}
 
 -- what a call makes at Ok is what its caller means
 pub on_ok : {T E : Type 0} (r : Result T E) (P Q : Type 0) → OnOk r P → (P → Q) → OnOk r Q
@@ -56,24 +56,24 @@ one_factor f =
 pub force_lines : (ps : List Property) (name : List ℕ) (row : Row) (h : HasForce ps name row) → property_at ps row ≡ in_force ps name h.0
 force_lines ps name row h = λ i d. h.2.lines_are d i
 
-pub adds_kind : (ps : List Property) (maintain : ℕ) (l : Listing) (row : Row) (old new : Draft) → Known ps l → HasForce ps l.name row → AddsKind ps maintain l (property_at ps row) (kind_in (property_at ps row directive.Kind)) old new → Adds ps maintain l old new
+pub adds_kind : (ps : List Property) (maintain : ℕ) (l : Listing) (row : Row) (old new : Draft) → Known ps l → HasForce ps l.name row → AddsKind ps maintain l (property_at ps row) (kind_in (property_at ps row directive.Kind)) old new → AddsListing ps maintain l old new
 adds_kind ps maintain l row old new known h a = (known, h.0, h.1, subst (λ (v : Directive → Option Property). AddsKind ps maintain l v (kind_in (v directive.Kind)) old new) (force_lines ps l.name row h) a)
 
 -- one worker more
 left_at : (ls : List declared.Listing) (i : ℕ) (d : declared.Listing) → i < length ls → as_listings (drop i ls) ≡ as_listing (get_or ls i d) ∷ as_listings (drop (i + 1) ls)
 left_at ls i d h = rw (drop_more ls i d h) refl
 
-pub building_more : (ps : List Property) (maintain : ℕ) (ls : List declared.Listing) (start now next : Draft) (i : ℕ) (d : declared.Listing) → i < length ls → Adds ps maintain (as_listing (get_or ls i d)) now next → IsBuilding ps maintain (as_listings ls) start (as_listings (drop i ls)) now → IsBuilding ps maintain (as_listings ls) start (as_listings (drop (i + 1) ls)) next
+pub building_more : (ps : List Property) (maintain : ℕ) (ls : List declared.Listing) (start now next : Draft) (i : ℕ) (d : declared.Listing) → i < length ls → AddsListing ps maintain (as_listing (get_or ls i d)) now next → IsBuilding ps maintain (as_listings ls) start (as_listings (drop i ls)) now → IsBuilding ps maintain (as_listings ls) start (as_listings (drop (i + 1) ls)) next
 building_more ps maintain ls start now next i d h adds b = record {
   builds = λ new rest. b.builds new (subst (λ (xs : List Listing). Builds ps maintain xs now new) (sym (left_at ls i d h)) (next, adds, rest));
-  stops = λ r rest. b.stops r (subst (λ (xs : List Listing). Stops ps maintain xs now r) (sym (left_at ls i d h)) (inr (next, adds, rest)));
+  stops = λ r rest. b.stops r (subst (λ (xs : List Listing). StopsAtListing ps maintain xs now r) (sym (left_at ls i d h)) (inr (next, adds, rest)));
 }
 
 -- a worker that is refused stops it, and after the last one it is built
-pub building_stops : (ps : List Property) (maintain : ℕ) (ls : List declared.Listing) (start now : Draft) (i : ℕ) (d : declared.Listing) (e : PropsError) → i < length ls → IsRefusal (Refuses ps (length now.lbs) (as_listing (get_or ls i d))) e → IsBuilding ps maintain (as_listings ls) start (as_listings (drop i ls)) now → IsRefusal (Stops ps maintain (as_listings ls) start) e
+pub building_stops : (ps : List Property) (maintain : ℕ) (ls : List declared.Listing) (start now : Draft) (i : ℕ) (d : declared.Listing) (e : PropsError) → i < length ls → IsRefusal (RefusesListing ps (length now.lbs) (as_listing (get_or ls i d))) e → IsBuilding ps maintain (as_listings ls) start (as_listings (drop i ls)) now → IsRefusal (StopsAtListing ps maintain (as_listings ls) start) e
 building_stops ps maintain ls start now i d e h bad b =
-    wider_refusal (Refuses ps (length now.lbs) (as_listing (get_or ls i d))) (Stops ps maintain (as_listings ls) start) e bad
-    (λ r refuses. b.stops r (subst (λ (xs : List Listing). Stops ps maintain xs now r) (sym (left_at ls i d h)) (inl refuses)))
+    wider_refusal (RefusesListing ps (length now.lbs) (as_listing (get_or ls i d))) (StopsAtListing ps maintain (as_listings ls) start) e bad
+    (λ r refuses. b.stops r (subst (λ (xs : List Listing). StopsAtListing ps maintain xs now r) (sym (left_at ls i d h)) (inl refuses)))
 
 pub building_ends : (ps : List Property) (maintain : ℕ) (ls : List declared.Listing) (start now : Draft) (i : ℕ) → length ls ≤ i → IsBuilding ps maintain (as_listings ls) start (as_listings (drop i ls)) now → Builds ps maintain (as_listings ls) start now
 building_ends ps maintain ls start now i h b =

@@ -129,8 +129,8 @@ RefusesKind ps count l v kind.Ajp13 r = (most_balancers ≤ count) × (r ≡ ref
 RefusesKind ps count l v kind.Lb r = RefusesLb ps count l v (members_in ps (v directive.BalanceWorkers)) r
 
 -- the refusals of a listed worker after `count` balancers
-abbrev pub Refuses : List Property → ℕ → Listing → LineRefusal → Type 0
-Refuses ps count l r =
+abbrev pub RefusesListing : List Property → ℕ → Listing → LineRefusal → Type 0
+RefusesListing ps count l r =
     Breaks ps l r
     ⊎ (IsUnknown ps l r
     ⊎ (Known ps l × (more : List (List ℕ)) × IsChain ps l.name more
@@ -154,20 +154,20 @@ AddsKind ps maintain l v kind.Lb old new =
     (length old.lbs < most_balancers) × Each (Known ps) members × Each (IsAjp13 ps) members
     × (lb : Lb) × IsLb ps v maintain l.name (firsts members) lb × (new ≡ with_lb old l.name lb)
 
-abbrev pub Adds : List Property → ℕ → Listing → Draft → Draft → Type 0
-Adds ps maintain l old new =
+abbrev pub AddsListing : List Property → ℕ → Listing → Draft → Draft → Type 0
+AddsListing ps maintain l old new =
     Known ps l × (more : List (List ℕ)) × IsChain ps l.name more
     × AddsKind ps maintain l (in_force ps l.name more) (kind_in (in_force ps l.name more directive.Kind)) old new
 
 -- the listed workers, in order, all accepted
 abbrev pub Builds : List Property → ℕ → List Listing → Draft → Draft → Type 0
 Builds ps maintain [] old new = new ≡ old
-Builds ps maintain (l ∷ ls) old new = (mid : Draft) × Adds ps maintain l old mid × Builds ps maintain ls mid new
+Builds ps maintain (l ∷ ls) old new = (mid : Draft) × AddsListing ps maintain l old mid × Builds ps maintain ls mid new
 
 -- the listed workers, in order, up to the first that is refused
-abbrev pub Stops : List Property → ℕ → List Listing → Draft → LineRefusal → Type 0
-Stops ps maintain [] old r = ⊥
-Stops ps maintain (l ∷ ls) old r = Refuses ps (length old.lbs) l r ⊎ ((mid : Draft) × Adds ps maintain l old mid × Stops ps maintain ls mid r)
+abbrev pub StopsAtListing : List Property → ℕ → List Listing → Draft → LineRefusal → Type 0
+StopsAtListing ps maintain [] old r = ⊥
+StopsAtListing ps maintain (l ∷ ls) old r = RefusesListing ps (length old.lbs) l r ⊎ ((mid : Draft) × AddsListing ps maintain l old mid × StopsAtListing ps maintain ls mid r)
 
 -- the seconds between two maintenances
 abbrev pub is_maintain_line : Property → Bool
@@ -205,7 +205,7 @@ pub record IsConfig (text : List ℕ) (c : Config) : Type 0 where
   pub ignored : c.ignored ≡ ignored_of properties
 
 -- the first refusal of a text
-abbrev pub IsRefused : List ℕ → LineRefusal → Type 0
-IsRefused text r =
+abbrev pub IsRefusedText : List ℕ → LineRefusal → Type 0
+IsRefusedText text r =
     (read_text true text ≡ Err r)
-    ⊎ ((ps : List Property) × (read_text true text ≡ Ok ps) × Stops ps (maintain_of ps) (firsts (site_list ps)) no_workers r)
+    ⊎ ((ps : List Property) × (read_text true text ≡ Ok ps) × StopsAtListing ps (maintain_of ps) (firsts (site_list ps)) no_workers r)

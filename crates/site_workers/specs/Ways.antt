@@ -94,9 +94,9 @@ pub record IsWay (ps : List Property) (start : List ℕ) (names : List (List ℕ
   pub ends : EndsWell names rows next
 
 -- a walk's refusal
-abbrev pub IsBroken : List Property → List ℕ → PropsError → Type 0
-IsBroken ps start (errors.Refused line code) = BreaksAt ps start line × (code ≡ 8)
-IsBroken ps start errors.NoMemory = Unit {0}
+abbrev pub IsBrokenWalk : List Property → List ℕ → PropsError → Type 0
+IsBrokenWalk ps start (errors.Refused line code) = BreaksAt ps start line × (code ≡ 8)
+IsBrokenWalk ps start errors.NoMemory = Unit {0}
 
 -- the row of the worker that this row's reference names
 abbrev pub row_of_target : List Property → List (List ℕ) → List Row → Row → Option Row

@@ -2,12 +2,12 @@
 ghost use Rattle.std.specs.Prelude.{◌≡◌, ℕ, List};
 ghost use Rattle.site_config.specs.Refusals.{LineRefusal};
 ghost use Rattle.site_config.specs.declared.config.Config.{Config};
-ghost use Rattle.site_workers.specs.Site.{IsConfig, IsRefused};
+ghost use Rattle.site_workers.specs.Site.{IsConfig, IsRefusedText};
 
 /// A workers.properties has one answer: it means one configuration, or it is refused for one cause at one line, and
 /// never both.
 pub fn a_text_has_one_answer()
     ensures configuration { (text : List ℕ) (a b : Config) → IsConfig text a → IsConfig text b → a ≡ b }
-    ensures refusal { (text : List ℕ) (r s : LineRefusal) → IsRefused text r → IsRefused text s → r ≡ s }
-    ensures never_both { (text : List ℕ) (c : Config) (r : LineRefusal) → IsConfig text c → IsRefused text r → ⊥ }
+    ensures refusal { (text : List ℕ) (r s : LineRefusal) → IsRefusedText text r → IsRefusedText text s → r ≡ s }
+    ensures never_both { (text : List ℕ) (c : Config) (r : LineRefusal) → IsConfig text c → IsRefusedText text r → ⊥ }
 {}

@@ -6,7 +6,7 @@ ghost use Rattle.site_workers.specs.Given.{is_given, or_else, target_name};
 ghost use Rattle.site_workers.specs.Numbers.{number_of};
 ghost use Rattle.site_workers.specs.Rows.{adjusted};
 ghost use Rattle.site_workers.specs.Tables.{AreAtRest, lines_in};
-ghost use Rattle.site_workers.specs.Ways.{IsWay, IsBroken, IsSettled, Inherits, is_open, passed_row, row_of_target};
+ghost use Rattle.site_workers.specs.Ways.{IsWay, IsBrokenWalk, IsSettled, Inherits, is_open, passed_row, row_of_target};
 ghost use Rattle.site_config.specs.declared.directive.TheConstants.{DIRECTIVE_COUNT};
 
 use crate::given::Given;
@@ -113,7 +113,7 @@ fn walk<'t>(
     requires rows { AreAtRest given.now rows.old.items }
     ensures way { IfOk result (λ path. IsWay (lines_in given.now) start.now given.now.names.now rows.new.items
         (reverse (map (λ n. n.now) path.items))) }
-    ensures broken { IfErr result (IsBroken (lines_in given.now) start.now) }
+    ensures broken { IfErr result (IsBrokenWalk (lines_in given.now) start.now) }
 {
     let mut path = Vec::new(alloc);
     let mut at = start;
@@ -146,7 +146,7 @@ pub(crate) fn resolve<'t>(
     requires rows { AreAtRest given.now rows.old.items }
     ensures rows { OnOk result (AreAtRest given.now rows.new.items) }
     ensures settled { OnOk result (IsSettled given.now.names.now rows.new.items start.now) }
-    ensures broken { IfErr result (IsBroken (lines_in given.now) start.now) }
+    ensures broken { IfErr result (IsBrokenWalk (lines_in given.now) start.now) }
 {
     let mut path = walk(alloc, given, rows, start)?;
     while let Some(name) = path.pop() {

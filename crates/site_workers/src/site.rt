@@ -8,7 +8,7 @@ ghost use Rattle.site_config.specs.Refusals.{IsRefusal};
 ghost use Rattle.site_workers.specs.Rows.{HasForce};
 ghost use Rattle.site_workers.specs.Site.{Breaks, Chained, Each, FirstBad, IsAjp13, IsNoAjp13, IsUnknown, Known};
 ghost use Rattle.site_workers.specs.Tables.{AreAtRest, lines_in};
-ghost use Rattle.site_workers.specs.Ways.{IsBroken, IsSettled};
+ghost use Rattle.site_workers.specs.Ways.{IsBrokenWalk, IsSettled};
 
 use crate::given::Given;
 use crate::listing::Listing;
@@ -39,7 +39,7 @@ pub(crate) fn force_of<'t>(
     requires rows { AreAtRest given.now rows.old.items }
     ensures rows { OnOk result (AreAtRest given.now rows.new.items) }
     ensures force { IfOk result (HasForce (lines_in given.now) name.now) }
-    ensures broken { IfErr result (IsBroken (lines_in given.now) name.now) }
+    ensures broken { IfErr result (IsBrokenWalk (lines_in given.now) name.now) }
 {
     resolve(alloc, given, rows, name)?;
     Ok(settled_row(given.names, rows.as_slice(), name))

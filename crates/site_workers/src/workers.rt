@@ -9,7 +9,7 @@ ghost use Rattle.site_workers.specs.Lists.{firsts, site_list};
 ghost use Rattle.site_config.specs.Refusals.{IsRefusal};
 ghost use Rattle.site_workers.specs.Rows.{HasForce, property_at};
 ghost use Rattle.site_workers.specs.Settings.{kind_in};
-ghost use Rattle.site_workers.specs.Site.{Adds, AddsKind, Builds, IsConfig, IsRefused, Known, Chained, Refuses, RefusesKind, Stops, draft_of, maintain_of, no_workers, with_lb};
+ghost use Rattle.site_workers.specs.Site.{AddsListing, AddsKind, Builds, IsConfig, IsRefusedText, Known, Chained, RefusesListing, RefusesKind, StopsAtListing, draft_of, maintain_of, no_workers, with_lb};
 ghost use Rattle.site_workers.specs.Tables.{AreAtRest, lines_in};
 
 use crate::books::{balanced, direct};
@@ -32,7 +32,7 @@ use site_config::{
 };
 use std::alloc::Global;
 
-/// Adds a balancer under a copy of its name.
+/// AddsListing a balancer under a copy of its name.
 fn put_lb(alloc: Global, draft: &mut Draft, name: &[u8], lb: Lb) -> Result<(), PropsError>
     ensures ok { OnOk result (draft.new ≡ with_lb draft.old name.now lb) }
     ensures memory { IfErr result (λ e. e ≡ PropsError.NoMemory) }
@@ -63,7 +63,7 @@ fn check_members<'t>(
     check_types(alloc, given, rows, members)
 }
 
-/// Adds an lb worker.
+/// AddsListing an lb worker.
 fn add_lb<'t>(
     alloc: Global,
     given: &Given<'_, 't>,
@@ -85,7 +85,7 @@ fn add_lb<'t>(
     put_lb(alloc, draft, listing.name, lb)
 }
 
-/// Adds an ajp13 worker that is listed itself.
+/// AddsListing an ajp13 worker that is listed itself.
 fn add_direct<'t>(
     alloc: Global,
     given: &Given<'_, 't>,
@@ -110,7 +110,7 @@ fn add_direct<'t>(
     put_lb(alloc, draft, listing.name, lb)
 }
 
-/// Adds a status worker.
+/// AddsListing a status worker.
 fn add_status(
     alloc: Global,
     given: &Given<'_, '_>,
@@ -131,7 +131,7 @@ fn add_status(
     draft.add_status(Bytes::from_slice(alloc, listing.name)?, status)
 }
 
-/// Adds a listed worker, or refuses it.
+/// AddsListing a listed worker, or refuses it.
 fn add_worker<'t>(
     alloc: Global,
     given: &Given<'_, 't>,
@@ -141,8 +141,8 @@ fn add_worker<'t>(
 ) -> Result<(), PropsError>
     requires rows { AreAtRest given.now rows.old.items }
     ensures rows { OnOk result (AreAtRest given.now rows.new.items) }
-    ensures ok { OnOk result (Adds (lines_in given.now) given.now.maintain (as_listing listing.now) draft.old draft.new) }
-    ensures refused { IfErr result (IsRefusal (Refuses (lines_in given.now) (length draft.old.lbs) (as_listing listing.now))) }
+    ensures ok { OnOk result (AddsListing (lines_in given.now) given.now.maintain (as_listing listing.now) draft.old draft.new) }
+    ensures refused { IfErr result (IsRefusal (RefusesListing (lines_in given.now) (length draft.old.lbs) (as_listing listing.now))) }
 {
     check_known(given, listing)?;
     let row = force_of(alloc, given, rows, listing.name)?;
@@ -153,7 +153,7 @@ fn add_worker<'t>(
     }
 }
 
-/// Adds the listed workers, up to the first that is refused.
+/// AddsListing the listed workers, up to the first that is refused.
 fn add_workers<'t>(
     alloc: Global,
     given: &Given<'_, 't>,
@@ -162,7 +162,7 @@ fn add_workers<'t>(
 ) -> Result<Draft, PropsError>
     requires rows { AreAtRest given.now rows.old.items }
     ensures ok { IfOk result (Builds (lines_in given.now) given.now.maintain (as_listings listings.now) no_workers) }
-    ensures refused { IfErr result (IsRefusal (Stops (lines_in given.now) given.now.maintain (as_listings listings.now) no_workers)) }
+    ensures refused { IfErr result (IsRefusal (StopsAtListing (lines_in given.now) given.now.maintain (as_listings listings.now) no_workers)) }
 {
     let mut draft = Draft::new(alloc);
     for listing in listings {
@@ -175,7 +175,7 @@ fn add_workers<'t>(
 fn drafted(alloc: Global, given: &Given<'_, '_>) -> Result<Draft, PropsError>
     ensures ok { IfOk result (Builds (lines_in given.now) given.now.maintain
         (firsts (site_list (lines_in given.now))) no_workers) }
-    ensures refused { IfErr result (IsRefusal (Stops (lines_in given.now) given.now.maintain
+    ensures refused { IfErr result (IsRefusal (StopsAtListing (lines_in given.now) given.now.maintain
         (firsts (site_list (lines_in given.now))) no_workers)) }
 {
     let mut rows = rows_of(alloc, given.names, given.entries)?;
@@ -193,7 +193,7 @@ fn config_of(
         (firsts (site_list (lines_in given.now))) no_workers (draft_of c)) }
     ensures maintain { IfOk result (λ c. c.maintain ≡ given.now.maintain) }
     ensures ignored { IfOk result (λ c. c.ignored ≡ ignored) }
-    ensures refused { IfErr result (IsRefusal (Stops (lines_in given.now) given.now.maintain
+    ensures refused { IfErr result (IsRefusal (StopsAtListing (lines_in given.now) given.now.maintain
         (firsts (site_list (lines_in given.now))) no_workers)) }
 {
     let Draft {
@@ -221,7 +221,7 @@ fn workers_of(
         (firsts (site_list (as_properties entries.now))) no_workers (draft_of c)) }
     ensures maintain { IfOk result (λ c. c.maintain ≡ maintain_of (as_properties entries.now)) }
     ensures ignored { IfOk result (λ c. c.ignored ≡ ignored) }
-    ensures refused { IfErr result (IsRefusal (Stops (as_properties entries.now) (maintain_of (as_properties entries.now))
+    ensures refused { IfErr result (IsRefusal (StopsAtListing (as_properties entries.now) (maintain_of (as_properties entries.now))
         (firsts (site_list (as_properties entries.now))) no_workers)) }
 {
     let names = names_of(alloc, entries)?;
@@ -241,7 +241,7 @@ fn workers_of(
 pub fn read_workers(alloc: Global, text: &[u8]) -> Result<Config, PropsError>
     requires { length text.now ≤ MAX_INPUT_BYTES }
     ensures ok { IfOk result (IsConfig text.now) }
-    ensures refused { IfErr result (IsRefusal (IsRefused text.now)) }
+    ensures refused { IfErr result (IsRefusal (IsRefusedText text.now)) }
 {
     let Told { entries, ignored } = told_lines(alloc, text)?;
     workers_of(alloc, entries.as_slice(), ignored)

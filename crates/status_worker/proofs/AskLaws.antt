@@ -10,7 +10,7 @@ use Rattle.status_worker.specs.Effects.{is_change}
 use Rattle.status_worker.specs.Meaning.{meaning_of}
 use Rattle.status_worker.specs.declared.command.StatusCommand.{StatusCommand}
 use Rattle.status_worker.specs.Asking.{AsksBy, IfRefused, IsNamedBalancer, IsRefusedBy}
-use Rattle.status_worker.specs.Commands.{Asks, AsksOpen, IsAllowed, IsRefused, IsRefusedOpen, IsWorkFor, NamesNone}
+use Rattle.status_worker.specs.Commands.{AsksDesk, AsksOpen, IsAllowed, IsRefusedQuery, IsRefusedOpen, IsWorkFor, NamesNone}
 use Rattle.status_worker.specs.declared.asking.NoPage.{NoPage}
 use Rattle.status_worker.specs.declared.asking.NoPage.TheVariants as no_page
 use Rattle.status_worker.specs.declared.asking.Work.{Work}
@@ -84,12 +84,12 @@ refused cfg status query c (Err no_page.NoMemory) means why = tt
 -- ---- an open status worker
 
 pub open_asks : (cfg : Config) (status : Status) (query : Option (List ℕ)) (r : Result Work NoPage) → status.closed ≡ false
-    → IfOk r (AsksOpen cfg status query) → IfOk r (Asks cfg status query)
+    → IfOk r (AsksOpen cfg status query) → IfOk r (AsksDesk cfg status query)
 open_asks cfg status query (Ok work) open' asks = (open', asks)
 open_asks cfg status query (Err why) open' asks = tt
 
 pub open_refuses : (cfg : Config) (status : Status) (query : Option (List ℕ)) (r : Result Work NoPage) → status.closed ≡ false
-    → IfErr r (IfRefused (IsRefusedOpen cfg status query)) → IfErr r (IfRefused (IsRefused cfg status query))
+    → IfErr r (IfRefused (IsRefusedOpen cfg status query)) → IfErr r (IfRefused (IsRefusedQuery cfg status query))
 open_refuses cfg status query (Ok work) open' why = tt
 open_refuses cfg status query (Err (no_page.Refused refusal)) open' why = inr (open', why)
 open_refuses cfg status query (Err no_page.NoMemory) open' why = tt

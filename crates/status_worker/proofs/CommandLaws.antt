@@ -10,7 +10,7 @@ use Rattle.site_config.specs.declared.config.Config.{Config}
 use Rattle.site_config.specs.declared.config.Status.{Status}
 use Rattle.status_worker.specs.Asking.{IfRefused}
 use Rattle.status_worker.specs.Commanding.{FailsChange, FailsOne, FailsWork, no_page_by}
-use Rattle.status_worker.specs.Commands.{Asks, Does, DoesAll, IsRefused, StopsAt, TurnsAway}
+use Rattle.status_worker.specs.Commands.{AsksDesk, Does, DoesAll, IsRefusedQuery, StopsAt, TurnsAway}
 use Rattle.status_worker.specs.Desks.{DeskSide}
 use Rattle.status_worker.specs.declared.asking.NoPage.{NoPage}
 use Rattle.status_worker.specs.declared.asking.NoPage.TheVariants as no_page
@@ -23,13 +23,13 @@ does_one_more session lb (first ∷ done) c s mid n before more =
     (before.0, before.1, does_one_more session lb done c before.0 mid n before.2 more)
 
 -- nothing was asked
-pub unasked : (cfg : Config) (session : ℕ) (status : Status) (query : Option (List ℕ)) (s : DeskSide) (why : NoPage) → IfRefused (IsRefused cfg status query) why
+pub unasked : (cfg : Config) (session : ℕ) (status : Status) (query : Option (List ℕ)) (s : DeskSide) (why : NoPage) → IfRefused (IsRefusedQuery cfg status query) why
     → FailsChange cfg session status query s s why
 unasked cfg session status query s (no_page.Refused refusal) refused = inl (refused, refl)
 unasked cfg session status query s no_page.NoMemory refused = inl refl
 
 stopped : (cfg : Config) (session : ℕ) (status : Status) (query : Option (List ℕ)) (work : Work) (s n : DeskSide) (error : AdminError FullMark)
-    → Asks cfg status query work → StopsAt session work s n error → FailsChange cfg session status query s n (no_page_by error)
+    → AsksDesk cfg status query work → StopsAt session work s n error → FailsChange cfg session status query s n (no_page_by error)
 stopped cfg session status query work s n admin.UnknownMember asks stops = inr (work, admin.UnknownMember, asks, stops, refl)
 stopped cfg session status query work s n admin.BadValue asks stops = inr (work, admin.BadValue, asks, stops, refl)
 stopped cfg session status query work s n (admin.TooWide mark) asks stops = inr (work, admin.TooWide mark, asks, stops, refl)
@@ -38,7 +38,7 @@ stopped cfg session status query work s n admin.NoMemory asks stops = inr (work,
 
 -- a command was refused
 pub refused : (cfg : Config) (session : ℕ) (status : Status) (query : Option (List ℕ)) (work : Work) (s n : DeskSide) (why : NoPage)
-    → Asks cfg status query work → FailsWork session work s n why → FailsChange cfg session status query s n why
+    → AsksDesk cfg status query work → FailsWork session work s n why → FailsChange cfg session status query s n why
 refused cfg session status query work s n why asks fails =
     subst (FailsChange cfg session status query s n) (sym fails.2) (stopped cfg session status query work s n fails.0 asks fails.1)
 

@@ -6,7 +6,7 @@ use Rattle.lb_model.specs.declared.refusal.AdminError.TheVariants as admin
 use Rattle.lb_model.specs.declared.refusal.FullMark.{FullMark}
 use Rattle.site_config.specs.declared.config.Config.{Config}
 use Rattle.site_config.specs.declared.config.Status.{Status}
-use Rattle.status_worker.specs.Commands.{IsBroken, IsDone, RefusesOne, StopsAt, TurnsAway}
+use Rattle.status_worker.specs.Commands.{IsBrokenCommand, IsDone, RefusesOne, StopsAt, TurnsAway}
 use Rattle.status_worker.specs.Desks.{DeskSide}
 use Rattle.status_worker.specs.declared.asking.NoPage.{NoPage}
 use Rattle.status_worker.specs.declared.asking.NoPage.TheVariants as no_page
@@ -33,7 +33,7 @@ FailsWork session work s n why = (error : AdminError FullMark) × StopsAt sessio
 -- there is no page
 abbrev pub FailsChange : Config → (session : ℕ) → Status → (query : Option (List ℕ)) → DeskSide → DeskSide → NoPage → Type 0
 FailsChange cfg session status query s n (no_page.Refused refusal) = TurnsAway cfg session status query s n refusal
-FailsChange cfg session status query s n no_page.NoMemory = IsBroken cfg session status query s n
+FailsChange cfg session status query s n no_page.NoMemory = IsBrokenCommand cfg session status query s n
 
 -- what a request asks for was done
 abbrev pub IsDoneFor : PageRequest → DeskSide → DeskSide → (only : Option ℕ) → Type 0

@@ -43,8 +43,8 @@ abbrev pub AsksOpen : Config → Status → (query : Option (List ℕ)) → Work
 AsksOpen cfg status query work = (c : StatusCommand) × (meaning_of query ≡ Some c) × IsAllowed status c × IsWorkFor cfg c work
 
 -- A status worker whose directives name users is closed, and is asked nothing.
-abbrev pub Asks : Config → Status → (query : Option (List ℕ)) → Work → Type 0
-Asks cfg status query work = (status.closed ≡ false) × AsksOpen cfg status query work
+abbrev pub AsksDesk : Config → Status → (query : Option (List ℕ)) → Work → Type 0
+AsksDesk cfg status query work = (status.closed ≡ false) × AsksOpen cfg status query work
 
 -- a name is that of no balancer, or one of a member is that of none of the balancer's
 abbrev pub NamesNone : Config → StatusCommand → Type 0
@@ -62,8 +62,8 @@ IsRefusedOpen cfg status query why =
     ⊎ ((c : StatusCommand) × (why ≡ PageRefusal.UnknownName) × (meaning_of query ≡ Some c) × IsAllowed status c × NamesNone cfg c))
 
 -- Why nothing is asked: the status worker is closed, whatever the query says; and else for what the query says.
-abbrev pub IsRefused : Config → Status → (query : Option (List ℕ)) → PageRefusal → Type 0
-IsRefused cfg status query why =
+abbrev pub IsRefusedQuery : Config → Status → (query : Option (List ℕ)) → PageRefusal → Type 0
+IsRefusedQuery cfg status query why =
     ((why ≡ PageRefusal.Closed) × (status.closed ≡ true)) ⊎ ((status.closed ≡ false) × IsRefusedOpen cfg status query why)
 
 -- ---- how it is done
@@ -117,15 +117,15 @@ refusal_by admin.NoMemory = None
 -- Why there is no page: nothing is asked, or a command was refused.
 abbrev pub TurnsAway : Config → (session : ℕ) → Status → (query : Option (List ℕ)) → DeskSide → DeskSide → PageRefusal → Type 0
 TurnsAway cfg session status query s n why =
-    (IsRefused cfg status query why × (n ≡ s))
-    ⊎ ((work : Work) × (error : AdminError FullMark) × Asks cfg status query work × StopsAt session work s n error × (refusal_by error ≡ Some why))
+    (IsRefusedQuery cfg status query why × (n ≡ s))
+    ⊎ ((work : Work) × (error : AdminError FullMark) × AsksDesk cfg status query work × StopsAt session work s n error × (refusal_by error ≡ Some why))
 
 -- All that was asked was done.
 abbrev pub IsDone : Config → (session : ℕ) → Status → (query : Option (List ℕ)) → DeskSide → DeskSide → (only : Option ℕ) → Type 0
 IsDone cfg session status query s n only =
-    (work : Work) × Asks cfg status query work × WorksOn session work s n × (only ≡ work.only)
+    (work : Work) × AsksDesk cfg status query work × WorksOn session work s n × (only ≡ work.only)
 
 -- Memory was wanted before anything was asked, or by a command after those before it.
-abbrev pub IsBroken : Config → (session : ℕ) → Status → (query : Option (List ℕ)) → DeskSide → DeskSide → Type 0
-IsBroken cfg session status query s n =
-    (n ≡ s) ⊎ ((work : Work) × Asks cfg status query work × StopsAt session work s n admin.NoMemory)
+abbrev pub IsBrokenCommand : Config → (session : ℕ) → Status → (query : Option (List ℕ)) → DeskSide → DeskSide → Type 0
+IsBrokenCommand cfg session status query s n =
+    (n ≡ s) ⊎ ((work : Work) × AsksDesk cfg status query work × StopsAt session work s n admin.NoMemory)

@@ -3,7 +3,7 @@ ghost use Rattle.std.specs.Prelude.{◌≡◌, ◌<◌, ◌&&◌, None, Some, le
 ghost use Rattle.status_worker.specs.Effects.{is_change};
 ghost use Rattle.status_worker.specs.Meaning.{meaning_of};
 ghost use Rattle.status_worker.specs.Asking.{AsksBy, IfRefused, IsNamedBalancer, IsRefusedBy};
-ghost use Rattle.status_worker.specs.Commands.{Asks, AsksOpen, IsRefused, IsRefusedOpen, IsWorkFor, NamesNone};
+ghost use Rattle.status_worker.specs.Commands.{AsksDesk, AsksOpen, IsRefusedQuery, IsRefusedOpen, IsWorkFor, NamesNone};
 
 use crate::refusal::PageRefusal;
 use crate::{CommandList, StatusCommand, StatusError, commands_for, read_command};
@@ -134,9 +134,9 @@ pub(crate) fn work_of(
     status: &Status,
     query: &Option<Bytes>,
 ) -> Result<Work, NoPage>
-    ensures ok { IfOk result (Asks cfg.now status.now query.now) }
+    ensures ok { IfOk result (AsksDesk cfg.now status.now query.now) }
     ensures within { IfOk result (λ work. IfSome work.only (λ lb. lb < length cfg.now.lbs)) }
-    ensures err { IfErr result (IfRefused (IsRefused cfg.now status.now query.now)) }
+    ensures err { IfErr result (IfRefused (IsRefusedQuery cfg.now status.now query.now)) }
 {
     if status.closed {
         return Err(NoPage::Refused(PageRefusal::Closed));

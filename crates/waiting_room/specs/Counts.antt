@@ -18,8 +18,8 @@ abbrev pub one_more : ℕ → ℕ
 one_more count = min (count + 1) 18446744073709551615
 
 -- another client may come
-abbrev pub IsOpen : Table → Type 0
-IsOpen table = (table.is_stopped ≡ false) × (table.left ≢ Some 0)
+abbrev pub MayComeIn : Table → Type 0
+MayComeIn table = (table.is_stopped ≡ false) × (table.left ≢ Some 0)
 
 -- a worker may look at its own client for a moment: the room is open, nobody is ready, and there are four workers for each client
 abbrev pub HasLeisure : Table → Type 0

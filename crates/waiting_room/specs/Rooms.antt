@@ -17,8 +17,8 @@ pub record Changes {C : Type 0} (before : List (Place C)) (at : ℕ) (was is : P
   pub is_there : after ≡ slice_set before at is
 
 -- a free place was taken, or one more was made
-abbrev pub Takes : {C : Type 0} → List (Place C) → ℕ → Place C → List (Place C) → Type 0
-Takes before at is after = Changes before at Free is after ⊎ ((at ≡ length before) × (after ≡ before ++ is ∷ []))
+abbrev pub TakesPlace : {C : Type 0} → List (Place C) → ℕ → Place C → List (Place C) → Type 0
+TakesPlace before at is after = Changes before at Free is after ⊎ ((at ≡ length before) × (after ≡ before ++ is ∷ []))
 
 -- the wait of the client who waits at a place
 abbrev pub stay_in : {C : Type 0} → Option (Place C) → Option Stay
@@ -37,8 +37,8 @@ SeenAs (Some (Waits stay client)) before at after = after ≡ before
 SeenAs (Some Free) before at after = after ≡ before
 SeenAs None before at after = after ≡ before
 
-abbrev pub IsSeen : {C : Type 0} → List (Place C) → ℕ → List (Place C) → Type 0
-IsSeen before at after = SeenAs (slice_get before at) before at after
+abbrev pub IsLookedOver : {C : Type 0} → List (Place C) → ℕ → List (Place C) → Type 0
+IsLookedOver before at after = SeenAs (slice_get before at) before at after
 
 -- the client of one place who was away went; all else stays
 abbrev pub FreedAs : {C : Type 0} → Option (Place C) → List (Place C) → ℕ → List (Place C) → Type 0

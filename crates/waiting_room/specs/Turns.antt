@@ -1,6 +1,6 @@
 -- Whom a worker gets next, and what a stop leaves to the workers.
 use Rattle.std.specs.Prelude.{◌≡◌, ◌⊎◌, ℕ, Bool, true, List, [], ◌∷◌, Some, slice_get}
-use Rattle.waiting_room.specs.Counts.{IsOpen}
+use Rattle.waiting_room.specs.Counts.{MayComeIn}
 use Rattle.waiting_room.specs.declared.client.Client as clients
 use Rattle.waiting_room.specs.declared.places.Place.{Place}
 use Rattle.waiting_room.specs.declared.places.Place.TheVariants.{Away}
@@ -11,15 +11,15 @@ use Rattle.waiting_room.specs.declared.table.Table.{Table}
 
 -- nobody gets a client any more: it was stopped, or no client is there and none may come
 abbrev pub Ends : Table → Type 0
-Ends table = (table.is_stopped ≡ true) ⊎ ((IsOpen table → ⊥) × (table.clients ≡ 0))
+Ends table = (table.is_stopped ≡ true) ⊎ ((MayComeIn table → ⊥) × (table.clients ≡ 0))
 
 -- who is ready first is given, whether it was stopped or not
 abbrev pub GivesOf : Table → List (ℕ × Stay × clients.Client) → Turn → Type 0
 GivesOf table ((at, stay, client) ∷ rest) turn = turn ≡ Client at stay client
 GivesOf table [] turn = ((turn ≡ Closed) × Ends table) ⊎ ((turn ≡ Nobody) × (Ends table → ⊥))
 
-abbrev pub Gives : Table → Turn → Type 0
-Gives table turn = GivesOf table table.places.ready turn
+abbrev pub GivesTurn : Table → Turn → Type 0
+GivesTurn table turn = GivesOf table table.places.ready turn
 
 -- each place of a client who is away, as one whom a worker has, stays so
 abbrev pub KeepsAway : {C : Type 0} → List (Place C) → List (Place C) → Type 0

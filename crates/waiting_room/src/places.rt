@@ -1,6 +1,6 @@
 //! The places of a waiting room: plain data, by which no client is lost.
 ghost use Rattle.std.specs.Prelude.{◌≡◌, ◌++◌, [], ◌∷◌, IfOk, IfErr, IfNone, IfSome, IsSome, OnErr, OnOk, length, slice_get, slice_set, true, false};
-ghost use Rattle.waiting_room.specs.Rooms.{Changes, GivesBack, IsFreed, IsSeen, Stirs, Takes, stay_at};
+ghost use Rattle.waiting_room.specs.Rooms.{Changes, GivesBack, IsFreed, IsLookedOver, Stirs, TakesPlace, stay_at};
 ghost use Rattle.waiting_room.specs.Stays.{IsOver};
 
 use crate::stay::{Limits, Phase, Stay};
@@ -67,7 +67,7 @@ impl<C> Places<C> {
 impl<C: Drop> Places<C> {
     /// A client comes in, and waits at the place of the answer. For want of memory it comes back.
     pub fn put(&mut self, stay: Stay, client: C) -> Result<usize, C>
-        ensures put { IfOk result (λ at. Takes self.old.places at (Place.Waits stay client) self.new.places) }
+        ensures put { IfOk result (λ at. TakesPlace self.old.places at (Place.Waits stay client) self.new.places) }
         ensures err { IfErr result (λ back. (back ≡ client) × (self.new.places ≡ self.old.places)) }
         ensures ready { self.new.ready ≡ self.old.ready }
     {
@@ -109,7 +109,7 @@ impl<C: Drop> Places<C> {
     /// The next client that is ready goes to a worker; what came until now, the worker will see.
     pub fn take(&mut self) -> Option<(usize, Stay, C)>
         ensures next { IfSome result (λ c. self.old.ready ≡ c ∷ self.new.ready) }
-        ensures seen { IfSome result (λ c. IsSeen self.old.places c.0 self.new.places) }
+        ensures seen { IfSome result (λ c. IsLookedOver self.old.places c.0 self.new.places) }
         ensures none { IfNone result ((self.old.ready ≡ []) × (self.new ≡ self.old)) }
     {
         let (at, stay, client) = self.ready.pop_front()?;
@@ -119,7 +119,7 @@ impl<C: Drop> Places<C> {
 
     /// What came until now for the client of a place, who is away, is no news.
     pub fn see(&mut self, at: usize)
-        ensures seen { IsSeen self.old.places at self.new.places }
+        ensures seen { IsLookedOver self.old.places at self.new.places }
         ensures ready { self.new.ready ≡ self.old.ready }
     {
         if let Some(Place::Away(_)) = self.places.get(at) {

@@ -1,7 +1,7 @@
 //! The room: what all doors share.
 ghost use Rattle.std.specs.Prelude.{◌≡◌, ◌==◌, IfNone, if◌then◌else◌};
 ghost use Rattle.waiting_room.specs.Stays.{end_after};
-ghost use Rattle.waiting_room.specs.Turns.{Gives, KeepsAway};
+ghost use Rattle.waiting_room.specs.Turns.{GivesTurn, KeepsAway};
 
 use crate::client::Client;
 use crate::control::{Askers, Control};
@@ -503,7 +503,7 @@ fn token_of(event: &Event) -> usize {
 
 // What a worker gets. Who is ready is served, also after a stop.
 fn turn_of(table: &mut Table) -> Turn
-    ensures { Gives table.old result }
+    ensures { GivesTurn table.old result }
 {
     match table.places.take() {
         Some((at, stay, client)) => {

@@ -1,6 +1,6 @@
 //! The clients of a room, with how many may still come.
 ghost use Rattle.std.specs.Prelude.{◌≡◌, ◌-◌, ◌↔◌, IsTrue, [], false};
-ghost use Rattle.waiting_room.specs.Counts.{HasLeisure, IsOpen, admitted, one_fewer, one_more};
+ghost use Rattle.waiting_room.specs.Counts.{HasLeisure, MayComeIn, admitted, one_fewer, one_more};
 
 use crate::client::Client;
 use crate::places::Places;
@@ -67,14 +67,14 @@ impl Table {
 
     /// Whether another client may come.
     pub fn is_open(&self) -> bool
-        ensures { IsTrue result ↔ IsOpen self.now }
+        ensures { IsTrue result ↔ MayComeIn self.now }
     {
         !self.is_stopped && !matches!(self.left, Some(0))
     }
 
     /// Whether no client is there, and none comes any more.
     pub fn is_over(&self) -> bool
-        ensures { IsTrue result ↔ ((IsOpen self.now → ⊥) × (self.now.clients ≡ 0)) }
+        ensures { IsTrue result ↔ ((MayComeIn self.now → ⊥) × (self.now.clients ≡ 0)) }
     {
         !self.is_open() && self.clients == 0
     }

@@ -1,6 +1,6 @@
 //! Replies as a client gets them, and answers of the connector's own.
 ghost use Rattle.std.specs.Prelude.{IfOk, OnOk};
-ghost use Rattle.http_out.specs.Writer.{IsOpen};
+ghost use Rattle.http_out.specs.Writer.{IsOpenReply};
 
 use check_rows::rows::{bytes_of, number, pair_of};
 use check_rows::telling::{put_bytes, put_shown, put_word};
@@ -148,7 +148,7 @@ fn reply(
 
 /// A writer that has taken the row's head.
 fn opened(alloc: Global, fields: &[&str; 8]) -> Result<ReplyWriter, OutError>
-    ensures { IfOk result (λ writer. IsOpen writer) }
+    ensures { IfOk result (λ writer. IsOpenReply writer) }
 {
     let asked = fields[1];
     let mut writer = ReplyWriter::new(alloc, kind_in(asked));
@@ -163,8 +163,8 @@ fn pass_chunks(
     chunks: &str,
     client: &mut MemLink,
 ) -> Result<(), OutError>
-    requires { IsOpen writer.old }
-    ensures { OnOk result (IsOpen writer.new) }
+    requires { IsOpenReply writer.old }
+    ensures { OnOk result (IsOpenReply writer.new) }
 {
     if chunks == "-" {
         return Ok(());
@@ -181,7 +181,7 @@ fn pass(
     chunks: &str,
     client: &mut MemLink,
 ) -> Result<(), OutError>
-    requires { IsOpen writer.old }
+    requires { IsOpenReply writer.old }
 {
     pass_chunks(alloc, writer, chunks, client)?;
     writer.end(client)
@@ -189,8 +189,8 @@ fn pass(
 
 /// Passes a chunk on, whatever became of those before it.
 fn pass_on(writer: &mut ReplyWriter, chunk: &[u8], client: &mut MemLink) -> Result<(), OutError>
-    requires { IsOpen writer.old }
-    ensures { IsOpen writer.new }
+    requires { IsOpenReply writer.old }
+    ensures { IsOpenReply writer.new }
 {
     writer.chunk(chunk, client)
 }
@@ -202,8 +202,8 @@ fn tell_chunks(
     client: &mut MemLink,
     out: &mut String,
 ) -> Result<(), NoMemory>
-    requires { IsOpen writer.old }
-    ensures { OnOk result (IsOpen writer.new) }
+    requires { IsOpenReply writer.old }
+    ensures { OnOk result (IsOpenReply writer.new) }
 {
     for chunk in chunks.split(" & ") {
         let end = pass_on(writer, bytes_of(alloc, chunk)?.as_slice(), client);
@@ -219,7 +219,7 @@ fn go_on(
     client: &mut MemLink,
     out: &mut String,
 ) -> Result<(), OutError>
-    requires { IsOpen writer.old }
+    requires { IsOpenReply writer.old }
 {
     tell_chunks(alloc, writer, chunks, client, out)?;
     put_word(out, if writer.passed() { "passed" } else { "kept" })?;

@@ -5,7 +5,7 @@ ghost use Rattle.std.specs.List.{All};
 ghost use Rattle.site_mounts.specs.Sites.{stands_in};
 ghost use Rattle.jk_server.specs.Runs.{RunsGears};
 ghost use Rattle.site_reports.specs.Starts.{AreStarts};
-ghost use Rattle.jk_server.specs.Started.{IsNewSite, IsReady, RunsStarted, pool_table};
+ghost use Rattle.jk_server.specs.Started.{IsNewSite, AreReady, RunsStarted, pool_table};
 ghost use Rattle.jk_server.specs.RunTells.{run_tells};
 ghost use Rattle.jk_server.specs.Watches.{watch_at};
 
@@ -143,7 +143,7 @@ fn over_site<
 where
     D::L: Send,
     requires new { IsNewSite L.name L.parts L.starts L.sizes L.firsts L.cut_at plan.cut plan.cfg.now.lbs new }
-    requires ready { IsReady T.is_idle L.parts plan.cfg.now plan.map.now (vec_len gears) gears.items }
+    requires ready { AreReady T.is_idle L.parts plan.cfg.now plan.map.now (vec_len gears) gears.items }
     ensures ran { let told = run_tells D.Door T.Tape K.Clock D.L.Meanings S.Shelf O.Meanings D.L.may_wait in
         IfOk result (RunsStarted told plan.entry gears.items) }
 {

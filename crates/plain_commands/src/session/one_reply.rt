@@ -1,7 +1,7 @@
 //! A reach in memory whose first link has a reply to come, and each later one nothing.
 ghost use Rattle.std.specs.Prelude.{◌≡◌, [], ◌∷◌, None, IfOk};
 ghost use Rattle.plain_commands.specs.DryLinks.{reply_link};
-ghost use Rattle.plain_commands.specs.DryReaches.{IsOver};
+ghost use Rattle.plain_commands.specs.DryReaches.{IsOverLinks};
 
 use jk_io::{
     Beside, Bytes, IoError, Link, ListOf, Meanings, MemLink, MemReach, NoMemory, NumberList, Reach,
@@ -35,13 +35,13 @@ impl<N: ReplyName> Model for OneReply<N> {
     ghost use Rattle.std.specs.Prelude.{[], ◌∷◌};
     ghost use Rattle.jk_io.specs.MemReaches.{MemReachState};
     ghost use Rattle.plain_commands.specs.DryLinks.{reply_link};
-    ghost use Rattle.plain_commands.specs.DryReaches.{IsOver};
+    ghost use Rattle.plain_commands.specs.DryReaches.{IsOverLinks};
 
     ghost Value = { MemReachState };
 
     ghost view = { λ r. r.reach };
 
-    ghost invariant = { λ r. IsOver (reply_link N.reply ∷ []) r.reach };
+    ghost invariant = { λ r. IsOverLinks (reply_link N.reply ∷ []) r.reach };
 }
 
 /// A link that has these bytes to come.
@@ -90,7 +90,7 @@ impl<N: ReplyName> OneReply<N> {
 
     // Tells what the type keeps: its talks were done over these links.
     pub fn vouch(&self)
-        ensures { IsOver (reply_link N.reply ∷ []) self.now }
+        ensures { IsOverLinks (reply_link N.reply ∷ []) self.now }
     {
         self.reach.faults();
     }

@@ -2,7 +2,7 @@
 ghost use Rattle.std.specs.Prelude.{◌≡◌, ◌≤◌, length, true, false, codes, IfOk, IsSomeAnd};
 ghost use Rattle.jk_io.specs.declared.whole_input.TheConstants.{MAX_INPUT_BYTES};
 ghost use Rattle.site_config.specs.Refusals.{LineRefusal};
-ghost use Rattle.site_reports.specs.Reports.{Refuses};
+ghost use Rattle.site_reports.specs.Reports.{PrintsRefusal};
 ghost use Rattle.site_mounts.specs.Lines.{read_text};
 ghost use Rattle.site_mounts.specs.Sites.{stands_in};
 ghost use Rattle.plain_commands.specs.Dry.{Dries, IsDryRun, OfRules, ReportsDry, Runs};
@@ -200,7 +200,7 @@ fn of_site(alloc: Global, site: &Site<'_>, wire: Wire<'_>) -> Result<Report, NoM
 
 /// The first refusal of a file.
 pub(crate) fn refused(alloc: Global, file: &[u8], line: u32, code: u8) -> Result<Report, NoMemory>
-    ensures { IfOk result (λ r. Refuses file.now (record { line = line; code = code }) r.text r.refused) }
+    ensures { IfOk result (λ r. PrintsRefusal file.now (record { line = line; code = code }) r.text r.refused) }
 {
     let mut text = Bytes::new(alloc);
     text.extend(file)?;

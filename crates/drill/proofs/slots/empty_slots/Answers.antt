@@ -4,7 +4,7 @@ use Rattle.std.proofs.lemmas.List.Elements.{All-head, All-push, All-rest, All-sa
 use Rattle.std.proofs.lemmas.List.Sums.{sum_by_push}
 use Rattle.lb_shared.specs.declared.mem_shelf.MemShelf.{MemShelf}
 use Rattle.lb_shared.specs.declared.shared_desk.Leaving.{Leaving}
-use Rattle.drill.specs.Threads.{IsWhole}
+use Rattle.drill.specs.Threads.{IsWholeDesk}
 use Rattle.drill.specs.declared.slots.Slot.{Slot}
 use Rattle.drill.proofs.BodyLaws.{none_together, one_together}
 use Rattle.drill.proofs.SlotLaws.{none-forgotten, one-left}
@@ -18,13 +18,13 @@ slots-preserved g c =
     let pushed = c.push_reserved.ensures.items in
     let more = ap length pushed in
     let here =
-    All-head {X = Slot g.row.L.Denot g.row.R.Denot} (λ s. IsWhole (2 ∷ []) s.desk.desk) _ _
-    (All-same (λ s. IsWhole (2 ∷ []) s.desk.desk) _ _ (sym first) inv.whole) in
+    All-head {X = Slot g.row.L.Denot g.row.R.Denot} (λ s. IsWholeDesk (2 ∷ []) s.desk.desk) _ _
+    (All-same (λ s. IsWholeDesk (2 ∷ []) s.desk.desk) _ _ (sym first) inv.whole) in
     let part = one-left _ _ here.one_part c.leave.ensures.parts in
     let forgot =
     none-forgotten _ _ _ _ c.leave.ensures.amount (here.counted ∙ ap length (sym c.leave.ensures.receipts)) c.leave.result.counted in
     record {
-      whole = All-rest {X = Slot g.row.L.Denot g.row.R.Denot} (λ s. IsWhole (2 ∷ []) s.desk.desk) _ _ _ first inv.whole;
+      whole = All-rest {X = Slot g.row.L.Denot g.row.R.Denot} (λ s. IsWholeDesk (2 ∷ []) s.desk.desk) _ _ _ first inv.whole;
       parts =
           let sum =
           ap (sum_by {X = Leaving g.row.L.Denot MemShelf g.L.SiteName} (λ x. x.share.parts)) pushed

@@ -1,6 +1,6 @@
 use Rattle.std.proofs.Common.{[], ◌∷◌, ap, length, arith}
 use Rattle.std.proofs.lemmas.List.Elements.{All-nil, All-same}
-use Rattle.drill.specs.Threads.{IsWhole}
+use Rattle.drill.specs.Threads.{IsWholeDesk}
 use Rattle.drill.specs.declared.slots.Slot.{Slot}
 use Rattle.drill.proofs.slots.fill_slots.Goals as goal
 
@@ -9,8 +9,8 @@ slots-init g c =
     let none = ap length c.requires.none in
     record {
       whole =
-          All-same {X = Slot g.row.L.Denot g.row.R.Denot} (λ s. IsWhole (2 ∷ []) s.desk.desk) _ _ c.requires.none
-          (All-nil {X = Slot g.row.L.Denot g.row.R.Denot} (λ s. IsWhole (2 ∷ []) s.desk.desk));
+          All-same {X = Slot g.row.L.Denot g.row.R.Denot} (λ s. IsWholeDesk (2 ∷ []) s.desk.desk) _ _ c.requires.none
+          (All-nil {X = Slot g.row.L.Denot g.row.R.Denot} (λ s. IsWholeDesk (2 ∷ []) s.desk.desk));
       count = omega (arith, none, c.args.slots.now.ok.0);
       parts = omega (arith, none, c.args.slots.now.ok.0, c.requires.parts);
       amount = c.requires.amount;

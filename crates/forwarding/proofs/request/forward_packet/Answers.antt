@@ -2,7 +2,7 @@
 use Rattle.std.proofs.Common.{◌≡◌, ◌∙◌, false, IfOk, OnOk, ap, arith, subst, sym}
 use Rattle.ajp_wire.specs.Packet.{packet}
 use Rattle.ajp_request.specs.Spelling.{SpellsForward}
-use Rattle.ajp_request.specs.Writing.{Fits, IsForward, as_read, payload_of}
+use Rattle.ajp_request.specs.Writing.{FitsForward, IsForward, as_read, payload_of}
 use Rattle.ajp_request.specs.declared.forward.Forward.{Forward}
 use Rattle.forwarding.proofs.ForwardLaws.{forward_is_one, forward_told}
 use Rattle.forwarding.proofs.request.forward_packet.Goals as goal
@@ -23,7 +23,7 @@ pub returns-clause-fits : goal.returns-clause-fits
 returns-clause-fits c =
     let a = c.args in
     let told = forward_told a.head.now a.peer.now.addr a.direct a.member.now a.endpoint.now c.parts_for-parts.result _ _ c.parts_for-parts.ensures c.headers_in-headers.ensures (c.as_slice.ensures ∙ c.in_ok-attributes.ensures) in
-    subst (λ (f : Forward). OnOk c.encode_parts.result (Fits a.endpoint.now.packet f)) told c.encode_parts.ensures.fits
+    subst (λ (f : Forward). OnOk c.encode_parts.result (FitsForward a.endpoint.now.packet f)) told c.encode_parts.ensures.fits
 
 pub returns-clause-spelled : goal.returns-clause-spelled
 returns-clause-spelled c =
@@ -35,4 +35,4 @@ pub returns-clause-too_large : goal.returns-clause-too_large
 returns-clause-too_large c =
     let a = c.args in
     let told = forward_told a.head.now a.peer.now.addr a.direct a.member.now a.endpoint.now c.parts_for-parts.result _ _ c.parts_for-parts.ensures c.headers_in-headers.ensures (c.as_slice.ensures ∙ c.in_ok-attributes.ensures) in
-    λ is fits. c.encode_parts.ensures.too_large is (subst (λ (f : Forward). Fits a.endpoint.now.packet f) (sym told) fits)
+    λ is fits. c.encode_parts.ensures.too_large is (subst (λ (f : Forward). FitsForward a.endpoint.now.packet f) (sym told) fits)

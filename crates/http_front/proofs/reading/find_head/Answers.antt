@@ -1,7 +1,7 @@
 -- The bytes end, or no more are read. A read is made only where the bytes in hand don't decide.
 use Rattle.std.proofs.Common.{◌≡◌, ◌<◌, ℕ, List, Err, length, refl, sym, ap, subst, ◌∙◌, arith}
 use Rattle.jk_io.specs.Told.{Rose}
-use Rattle.http_front.specs.Search.{IsFound, IsPart, IsSeen, IsStop}
+use Rattle.http_front.specs.Search.{IsFoundHead, IsPartOfHead, IsSearched, IsStop}
 use Rattle.http_front.specs.declared.answers.HeadError.{HeadError}
 use Rattle.http_front.specs.declared.answers.HeadError.TheVariants as error
 use Rattle.http_front.proofs.CutLemmas.{seen-more}
@@ -11,7 +11,7 @@ use Rattle.http_front.proofs.reading.find_head.Goals as goal
 
 pub end_at-requires-clause-part : goal.end_at-requires-clause-part
 end_at-requires-clause-part g c =
-    let P : List ℕ → Type 0 = λ l. IsPart l c.in-Part.begin c.in-Part.at in
+    let P : List ℕ → Type 0 = λ l. IsPartOfHead l c.in-Part.begin c.in-Part.at in
     let part = subst P c.as_slice.ensures.value c.in-Part.ensures in
     let more = c.in-Ok-eq0.ensures.more in
     let same = nothing-came c.read_on.new.inbox c.loop-blank.inbox more.0 more.2 (omega (arith, more.1, c.in-Ok-eq0.field-0-test)) in
@@ -25,7 +25,7 @@ end_at-requires-clause-short g c =
 
 pub returns-in-Ok-eq0-clause-found : goal.returns-in-Ok-eq0-clause-found
 returns-in-Ok-eq0-clause-found g c =
-    subst (λ (l : List ℕ). IsFound l c.end_at.result) c.as_slice-in-Ok-eq0.ensures.value c.end_at.ensures.found
+    subst (λ (l : List ℕ). IsFoundHead l c.end_at.result) c.as_slice-in-Ok-eq0.ensures.value c.end_at.ensures.found
 
 pub returns-in-Ok-eq0-clause-ended : goal.returns-in-Ok-eq0-clause-ended
 returns-in-Ok-eq0-clause-ended g c = λ ended. c.in-Ok-eq0.ensures.end c.in-Ok-eq0.field-0-test
@@ -75,8 +75,8 @@ loop-blank-preserved g c =
     let I = c.loop-blank.invariant in
     let e = c.in-Ok.ensures in
     let part = c.in-Part.ensures in
-    let P : List ℕ → Type 0 = λ l. IsPart l c.in-Part.begin c.in-Part.at in
-    let Q : List ℕ → Type 0 = λ l. IsSeen l c.in-Part.begin c.in-Part.at in
+    let P : List ℕ → Type 0 = λ l. IsPartOfHead l c.in-Part.begin c.in-Part.at in
+    let Q : List ℕ → Type 0 = λ l. IsSearched l c.in-Part.begin c.in-Part.at in
     let seen = seen-more c.loop-blank.inbox e.more.0 c.in-Part.begin c.in-Part.at (subst P c.as_slice.ensures.value part).seen in
     record {
       seen = subst Q (sym e.more.2) seen;

@@ -1,7 +1,7 @@
 use Rattle.std.proofs.Common.{ap, length, refl, sym, arith}
 use Rattle.std.proofs.lemmas.List.Elements.{All-head, All-rest, All-same}
 use Rattle.gear_parts.proofs.ListLaws.{none_left}
-use Rattle.jk_server.specs.Parts.{IsOver}
+use Rattle.jk_server.specs.Parts.{WorkerIsOver}
 use Rattle.jk_server.proofs.SlotLaws.{all_taken, empty_of, none_taken, one_taken, space_after, space_for_one}
 use Rattle.jk_server.proofs.workers.empty_each.Goals as goal
 
@@ -18,7 +18,7 @@ slots-preserved g c =
     let put = c.put_left.ensures in
     record {
       so_far = one_taken _ _ _ _ _ _ _ _ _ _ _ _ _ _ c.slots.invariant.so_far first c.leave_slot-gear.ensures.left put.gears put.lefts put.ends;
-      over = All-rest (λ s. IsOver s) _ _ _ first c.slots.invariant.over;
+      over = All-rest (λ s. WorkerIsOver s) _ _ _ first c.slots.invariant.over;
       space = space_after _ _ _ _ _ _ _ _ put c.slots.invariant.space first;
     }
 
@@ -27,7 +27,7 @@ slots-smaller g c = omega (arith, ap length c.in-Some.ensures.items)
 
 pub leave_slot-gear-requires-clause-over : goal.leave_slot-gear-requires-clause-over
 leave_slot-gear-requires-clause-over g c = λ κs within.
-    All-head (λ s. IsOver s) _ _ (All-same (λ s. IsOver s) _ _ (sym c.in-Some.ensures.items) c.slots.invariant.over)
+    All-head (λ s. WorkerIsOver s) _ _ (All-same (λ s. WorkerIsOver s) _ _ (sym c.in-Some.ensures.items) c.slots.invariant.over)
 
 pub put_left-requires : goal.put_left-requires
 put_left-requires g c = space_for_one _ _ _ _ c.slots.invariant.space c.in-Some.ensures.items

@@ -1,6 +1,6 @@
 use Rattle.std.proofs.Common.{ℕ, List, [], ◌∷◌, ◌++◌, ◌+◌, drop, take, get_or, refl, subst, ◌∙◌, append_assoc, arith}
 use Rattle.std.proofs.lemmas.List.{take_all}
-use Rattle.journal_verdict.specs.Followed.{IsStopped}
+use Rattle.journal_verdict.specs.Followed.{IsStoppedText}
 use Rattle.journal_verdict.specs.Machines.{Knows}
 use Rattle.journal_verdict.specs.declared.known.Known.TheVariants as known
 use Rattle.journal_verdict.proofs.CutLaws.{stopped_more, with_byte, with_rest}
@@ -18,8 +18,8 @@ returns-in_err-take_byte-clause-err c bytes k =
     let before = bytes ++ take i c.args.piece.now in
     let later = drop (i + 1) c.args.piece.now in
     let error = c.in_err-take_byte.field-0.0 in
-    told_err c.from_residual.result error (IsStopped (bytes ++ c.args.piece.now)) c.from_residual.ensures.1
-    (subst (λ (all : List ℕ). IsStopped all error) (append_assoc before (byte ∷ []) later ∙ with_rest bytes c.args.piece.now i byte c.loop-byte-test.true refl)
+    told_err c.from_residual.result error (IsStoppedText (bytes ++ c.args.piece.now)) c.from_residual.ensures.1
+    (subst (λ (all : List ℕ). IsStoppedText all error) (append_assoc before (byte ∷ []) later ∙ with_rest bytes c.args.piece.now i byte c.loop-byte-test.true refl)
     (stopped_more (before ++ byte ∷ []) later error (c.in_err-take_byte.ensures.err before (c.loop-byte.invariant bytes k))))
 
 pub loop-byte-preserved : goal.loop-byte-preserved

@@ -1,5 +1,5 @@
 use Rattle.std.proofs.Common.{[], ◌∷◌, None, Some}
-use Rattle.plain_commands.specs.Plain.{Answers}
+use Rattle.plain_commands.specs.Plain.{AnswersOrder}
 use Rattle.jk_cli.specs.declared.order.Order.TheVariants as order
 use Rattle.site_reports.specs.Readings.{File}
 use Rattle.site_reports.specs.Reports.{ReportsSite}
@@ -8,7 +8,7 @@ use Rattle.plain_commands.proofs.commands.config_site.Goals as goal
 
 pub returns-in-None-clause-ok : goal.returns-in-None-clause-ok
 returns-in-None-clause-ok g c =
-    long_ok (λ incoming. record { files = g.F.Files.files c.args.files.now; incoming = incoming }) (File c.args.workers.now ∷ File c.args.map.now ∷ []) (Answers (order.Config c.args.workers.now (Some c.args.map.now))) c.too_long.result c.too_long.ensures.text c.too_long.ensures.ending
+    long_ok (λ incoming. record { files = g.F.Files.files c.args.files.now; incoming = incoming }) (File c.args.workers.now ∷ File c.args.map.now ∷ []) (AnswersOrder (order.Config c.args.workers.now (Some c.args.map.now))) c.too_long.result c.too_long.ensures.text c.too_long.ensures.ending
     (λ incoming. rw c.in-None.is at (c.in_ok-read_pair.ensures.long incoming))
 
 pub returns-in-None-clause-cause : goal.returns-in-None-clause-cause
@@ -21,7 +21,7 @@ report_site-requires g c =
 
 pub returns-in-Some-clause-ok : goal.returns-in-Some-clause-ok
 returns-in-Some-clause-ok g c =
-    read_ok (λ incoming. record { files = g.F.Files.files c.args.files.now; incoming = incoming }) (File c.args.workers.now ∷ File c.args.map.now ∷ []) (c.in-Some.workers ∷ c.in-Some.map ∷ []) (Answers (order.Config c.args.workers.now (Some c.args.map.now))) c.printed.result
+    read_ok (λ incoming. record { files = g.F.Files.files c.args.files.now; incoming = incoming }) (File c.args.workers.now ∷ File c.args.map.now ∷ []) (c.in-Some.workers ∷ c.in-Some.map ∷ []) (AnswersOrder (order.Config c.args.workers.now (Some c.args.map.now))) c.printed.result
     (λ incoming. rw c.in-Some.is at (c.in_ok-read_pair.ensures.there incoming))
     (printed_ok (ReportsSite c.in-Some.workers c.in-Some.map) c.report_site.result c.printed.result
     (rw (c.as_slice.ensures, c.as_slice-in-Some.ensures) at c.report_site.ensures) c.printed.ensures.ok)

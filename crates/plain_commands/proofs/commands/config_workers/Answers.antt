@@ -1,5 +1,5 @@
 use Rattle.std.proofs.Common.{[], ◌∷◌, None, inl}
-use Rattle.plain_commands.specs.Plain.{Answers}
+use Rattle.plain_commands.specs.Plain.{AnswersOrder}
 use Rattle.jk_cli.specs.declared.order.Order.TheVariants as order
 use Rattle.site_reports.specs.Readings.{File}
 use Rattle.site_reports.specs.Reports.{ReportsConfig}
@@ -8,7 +8,7 @@ use Rattle.plain_commands.proofs.commands.config_workers.Goals as goal
 
 pub returns-in-None-clause-ok : goal.returns-in-None-clause-ok
 returns-in-None-clause-ok g c =
-    long_ok (λ incoming. record { files = g.F.Files.files c.args.files.now; incoming = incoming }) (File c.args.workers.now ∷ []) (Answers (order.Config c.args.workers.now None)) c.too_long.result c.too_long.ensures.text c.too_long.ensures.ending
+    long_ok (λ incoming. record { files = g.F.Files.files c.args.files.now; incoming = incoming }) (File c.args.workers.now ∷ []) (AnswersOrder (order.Config c.args.workers.now None)) c.too_long.result c.too_long.ensures.text c.too_long.ensures.ending
     (λ incoming. inl (rw c.in-None.is at c.in_ok-read_text.ensures.long))
 
 pub returns-in-None-clause-cause : goal.returns-in-None-clause-cause
@@ -16,7 +16,7 @@ returns-in-None-clause-cause g c = cause_kept _ _ _ _ c.read_text.ensures.cause 
 
 pub returns-in-Some-clause-ok : goal.returns-in-Some-clause-ok
 returns-in-Some-clause-ok g c =
-    read_ok (λ incoming. record { files = g.F.Files.files c.args.files.now; incoming = incoming }) (File c.args.workers.now ∷ []) (c.in-Some.workers ∷ []) (Answers (order.Config c.args.workers.now None)) c.printed.result
+    read_ok (λ incoming. record { files = g.F.Files.files c.args.files.now; incoming = incoming }) (File c.args.workers.now ∷ []) (c.in-Some.workers ∷ []) (AnswersOrder (order.Config c.args.workers.now None)) c.printed.result
     (λ incoming. ((rw c.in-Some.is at c.in_ok-read_text.ensures.there, rw c.in-Some.is at c.in_ok-read_text.ensures.short), tt))
     (printed_ok (ReportsConfig c.in-Some.workers) c.report_config.result c.printed.result (rw c.as_slice.ensures at c.report_config.ensures) c.printed.ensures.ok)
 

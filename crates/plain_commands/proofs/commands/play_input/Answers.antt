@@ -1,5 +1,5 @@
 use Rattle.std.proofs.Common.{[], ◌∷◌, inl, inr}
-use Rattle.plain_commands.specs.Plain.{Answers}
+use Rattle.plain_commands.specs.Plain.{AnswersOrder}
 use Rattle.jk_cli.specs.declared.order.Order.TheVariants as order
 use Rattle.site_reports.specs.Readings.{Input}
 use Rattle.plain_commands.proofs.PlainLemmas.{cause_kept, long_ok}
@@ -11,7 +11,7 @@ returns-in_ok-play-in-Some-clause-ok g c files =
 
 pub returns-in-None-clause-ok : goal.returns-in-None-clause-ok
 returns-in-None-clause-ok g c =
-    long_ok (λ files. record { files = files; incoming = g.S.Meanings.incoming c.args.input.now }) (Input ∷ []) (Answers order.Play) c.too_long.result c.too_long.ensures.text c.too_long.ensures.ending
+    long_ok (λ files. record { files = files; incoming = g.S.Meanings.incoming c.args.input.now }) (Input ∷ []) (AnswersOrder order.Play) c.too_long.result c.too_long.ensures.text c.too_long.ensures.ending
     (λ files. inl (rw c.in-None.is at c.in_ok-read_input.ensures.long))
 
 pub returns-in-None-clause-cause : goal.returns-in-None-clause-cause

@@ -1,5 +1,5 @@
 use Rattle.std.proofs.Common.{[], ◌∷◌, inl, inr}
-use Rattle.plain_commands.specs.Plain.{Answers}
+use Rattle.plain_commands.specs.Plain.{AnswersOrder}
 use Rattle.jk_cli.specs.declared.order.Order.TheVariants as order
 use Rattle.site_reports.specs.Readings.{File}
 use Rattle.plain_commands.proofs.PlainLemmas.{cause_kept, long_ok}
@@ -7,7 +7,7 @@ use Rattle.plain_commands.proofs.commands.stop_front.Goals as goal
 
 pub returns-in-None-clause-ok : goal.returns-in-None-clause-ok
 returns-in-None-clause-ok g c =
-    long_ok (λ incoming. record { files = g.F.Files.files c.args.files.now; incoming = incoming }) (File c.args.path.now ∷ []) (Answers (order.Stop c.args.path.now)) c.too_long.result c.too_long.ensures.text c.too_long.ensures.ending
+    long_ok (λ incoming. record { files = g.F.Files.files c.args.files.now; incoming = incoming }) (File c.args.path.now ∷ []) (AnswersOrder (order.Stop c.args.path.now)) c.too_long.result c.too_long.ensures.text c.too_long.ensures.ending
     (λ incoming. inl (rw c.in-None.is at c.in_ok-read_text.ensures.long))
 
 pub returns-in-None-clause-cause : goal.returns-in-None-clause-cause

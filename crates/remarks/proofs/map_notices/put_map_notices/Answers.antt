@@ -4,7 +4,7 @@ use Rattle.jk_io.specs.Told.{appended}
 use Rattle.jk_io.proofs.ToldLaws.{appended-appended, appended-nil}
 use Rattle.site_config.specs.Lines.{lines}
 use Rattle.remarks.specs.MapNotices.{line_notices, map_notices, notices_from}
-use Rattle.remarks.specs.Added.{IsFront}
+use Rattle.remarks.specs.Added.{IsFrontOfText}
 use Rattle.remarks.proofs.AddedLemmas.{failed, front_more}
 use Rattle.remarks.proofs.NoticeLemmas.{none_left}
 use Rattle.remarks.proofs.map_notices.put_map_notices.Goals as goal
@@ -50,7 +50,7 @@ returns-in_err-put_line_notices g c = record {
       let known : appended c.loop-text.out.said (one ++ rest) ≡ appended c.args.out.now.said (map_notices file kinds c.args.map.now.text.now) =
       rw c.in-Some.ensures.some at (c.loop-text.invariant.said kinds table) in
       failed c.from_residual.result _ _ _ _ c.from_residual.ensures.1
-      (subst (λ (t : Option (List ℕ)). IsFront t c.put_line_notices.new.out.said) known
+      (subst (λ (t : Option (List ℕ)). IsFrontOfText t c.put_line_notices.new.out.said) known
       (front_more c.loop-text.out.said c.put_line_notices.new.out.said one rest (c.in_err-put_line_notices.ensures.added kinds table)));
   cause = search rules;
   steady = search rules;

@@ -3,7 +3,7 @@ use Rattle.std.proofs.Common.{◌≡◌, ◌+◌, ◌++◌, ◌∙◌, ◌||◌,
 use Rattle.jk_io.specs.Told.{appended}
 use Rattle.jk_io.proofs.ToldLaws.{appended-appended, appended-nil}
 use Rattle.site_config.specs.Lines.{lines}
-use Rattle.remarks.specs.Added.{IsFront}
+use Rattle.remarks.specs.Added.{IsFrontOfText}
 use Rattle.remarks.specs.Refused.{has_wrong, is_refused_by_line, refused_from, refused_lines, told_if, wrong_by}
 use Rattle.remarks.proofs.AddedLemmas.{failed, front_more}
 use Rattle.remarks.proofs.RefusedLemmas.{none_refused, none_wrong, or_false, or_more}
@@ -71,9 +71,9 @@ returns-in_err-put_wrong-clause-adds g c =
     rw c.in-Some.ensures.some at c.loop-line.invariant.said in
     record {
       added = failed c.from_residual-in_err-put_wrong.result _ _ _ _ c.from_residual-in_err-put_wrong.ensures.1
-          (subst (λ (t : Option (List ℕ)). IsFront t c.put_wrong.new.out.said) known
+          (subst (λ (t : Option (List ℕ)). IsFrontOfText t c.put_wrong.new.out.said) known
           (front_more c.loop-line.out.said c.put_wrong.new.out.said one rest
-          (subst (λ (t : List ℕ). IsFront (appended c.loop-line.out.said t) c.put_wrong.new.out.said) (ap (told_if file n line) c.in_ok-words.ensures) c.in_err-put_wrong.ensures.added)));
+          (subst (λ (t : List ℕ). IsFrontOfText (appended c.loop-line.out.said t) c.put_wrong.new.out.said) (ap (told_if file n line) c.in_ok-words.ensures) c.in_err-put_wrong.ensures.added)));
       cause = search rules;
       steady = search rules;
     }

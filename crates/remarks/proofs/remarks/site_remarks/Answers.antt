@@ -1,6 +1,6 @@
 use Rattle.std.proofs.Common.{◌++◌, refl, inl, inr}
 use Rattle.site_config.specs.Refusals.{LineRefusal}
-use Rattle.site_workers.specs.Site.{IsConfig, IsRefused}
+use Rattle.site_workers.specs.Site.{IsConfig, IsRefusedText}
 use Rattle.remarks.specs.Remarks.{AreRemarks, as_file, map_remarks, maps_of, workers_refusals, workers_remarks}
 use Rattle.remarks.proofs.AddedLemmas.{adds_at, adds_some}
 use Rattle.remarks.proofs.remarks.site_remarks.Goals as goal
@@ -19,6 +19,6 @@ pub returns-in-Err-Refused : goal.returns-in-Err-Refused
 returns-in-Err-Refused g c =
     let files = c.args.files.now in
     let r : LineRefusal = record { line = c.in-Err-Refused.line; code = c.in-Err-Refused.code } in
-    let refused : IsRefused files.workers.text.now r = rw c.in-Err-Refused.field-0-is at c.in-Err-Refused.ensures.refused in
+    let refused : IsRefusedText files.workers.text.now r = rw c.in-Err-Refused.field-0-is at c.in-Err-Refused.ensures.refused in
     adds_some c.put_workers_refusals.result _ _ (workers_refusals (as_file files.workers) r) (AreRemarks c.args.effects (as_file files.workers) (maps_of files))
     c.put_workers_refusals.ensures (inl (r, refused, refl))

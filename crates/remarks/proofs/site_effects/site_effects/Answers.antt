@@ -2,7 +2,7 @@ use Rattle.std.proofs.Common.{[], inl, inr, refl, rules, sym}
 use Rattle.jk_io.proofs.ToldLaws.{appended-nil}
 use Rattle.site_config.specs.Refusals.{LineRefusal}
 use Rattle.site_mounts.specs.Lines.{read_text}
-use Rattle.site_workers.specs.Site.{IsConfig, IsRefused}
+use Rattle.site_workers.specs.Site.{IsConfig, IsRefusedText}
 use Rattle.remarks.specs.Remarks.{AreEffects, as_file, effects_over}
 use Rattle.remarks.proofs.AddedLemmas.{adds_at, adds_some}
 use Rattle.remarks.proofs.EffectLemmas.{effects_are}
@@ -22,5 +22,5 @@ returns-in-Ok g c =
 pub returns-in-Err-Refused : goal.returns-in-Err-Refused
 returns-in-Err-Refused g c =
     let r : LineRefusal = record { line = c.in-Err-Refused.field-0-0; code = c.in-Err-Refused.field-0-1 } in
-    let refused : IsRefused c.args.workers.now.text.now r = rw c.in-Err-Refused.field-0-is at c.in-Err-Refused.ensures.refused in
+    let refused : IsRefusedText c.args.workers.now.text.now r = rw c.in-Err-Refused.field-0-is at c.in-Err-Refused.ensures.refused in
     record { added = ([], inr (inl (r, refused), refl), sym (appended-nil c.args.out.now.said)); cause = search rules; steady = search rules }

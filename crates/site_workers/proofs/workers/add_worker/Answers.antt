@@ -4,7 +4,7 @@ use Rattle.site_config.specs.declared.values.WorkerKind.TheVariants as kind
 use Rattle.site_config.specs.Entries.{as_properties}
 use Rattle.site_workers.specs.Listings.{as_listing}
 use Rattle.site_workers.specs.Rows.{property_at}
-use Rattle.site_workers.specs.Site.{AddsKind, Refuses, RefusesKind}
+use Rattle.site_workers.specs.Site.{AddsKind, RefusesListing, RefusesKind}
 use Rattle.site_workers.proofs.CheckLemmas.{refuses_kind}
 use Rattle.site_workers.proofs.WorkerLemmas.{adds_kind, ok_anyway, on_ok, wants_memory, wider_refused}
 use Rattle.site_workers.proofs.workers.add_worker.Goals as goal
@@ -39,7 +39,7 @@ returns-in-Ajp13-clause-refused c =
     let l = as_listing c.args.listing.now in
     let row = c.in_ok-row.row in
     let count = length c.args.draft.now.lbs in
-    wider_refused c.add_direct.result (RefusesKind ps count l (property_at ps row) kind.Ajp13) (Refuses ps count l) c.add_direct.ensures.refused (λ r refused.
+    wider_refused c.add_direct.result (RefusesKind ps count l (property_at ps row) kind.Ajp13) (RefusesListing ps count l) c.add_direct.ensures.refused (λ r refused.
     refuses_kind ps count l row r c.in_ok-check_known.ensures.ok c.in_ok-row.ensures.force (subst (λ (k : WorkerKind). RefusesKind ps count l (property_at ps row) k r) c.in-Ajp13.ensures refused))
 
 pub returns-in-Lb-clause-refused : goal.returns-in-Lb-clause-refused
@@ -48,13 +48,13 @@ returns-in-Lb-clause-refused c =
     let l = as_listing c.args.listing.now in
     let row = c.in_ok-row.row in
     let count = length c.args.draft.now.lbs in
-    wider_refused c.add_lb.result (RefusesKind ps count l (property_at ps row) kind.Lb) (Refuses ps count l) c.add_lb.ensures.refused (λ r refused.
+    wider_refused c.add_lb.result (RefusesKind ps count l (property_at ps row) kind.Lb) (RefusesListing ps count l) c.add_lb.ensures.refused (λ r refused.
     refuses_kind ps count l row r c.in_ok-check_known.ensures.ok c.in_ok-row.ensures.force (subst (λ (k : WorkerKind). RefusesKind ps count l (property_at ps row) k r) c.in-Lb.ensures refused))
 
 pub returns-in-Status-clause-refused : goal.returns-in-Status-clause-refused
 returns-in-Status-clause-refused c =
     let ps = as_properties c.args.given.now.entries.now in
-    wants_memory c.add_status.result (Refuses ps (length c.args.draft.now.lbs) (as_listing c.args.listing.now)) c.add_status.ensures.memory
+    wants_memory c.add_status.result (RefusesListing ps (length c.args.draft.now.lbs) (as_listing c.args.listing.now)) c.add_status.ensures.memory
 
 pub returns-in-Status-clause-rows : goal.returns-in-Status-clause-rows
 returns-in-Status-clause-rows c = ok_anyway c.add_status.result _ c.in_ok-row.ensures.rows

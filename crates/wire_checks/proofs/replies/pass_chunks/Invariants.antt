@@ -1,5 +1,5 @@
-use Rattle.http_out.specs.Writer.{IsOpen}
+use Rattle.http_out.specs.Writer.{IsOpenReply}
 use Rattle.wire_checks.proofs.replies.pass_chunks.Given as goal
 
 abbrev pub invariant-loop-chunk : goal.invariant-loop-chunk
-invariant-loop-chunk l = IsOpen l.writer
+invariant-loop-chunk l = IsOpenReply l.writer

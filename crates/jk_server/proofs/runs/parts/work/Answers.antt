@@ -15,7 +15,7 @@ use Rattle.gear_parts.specs.GearLogs.{broken_by}
 use Rattle.gear_parts.specs.GearParts.{start_of, unnumbered}
 use Rattle.gear_parts.specs.Gears.{gear_side}
 use Rattle.gear_parts.proofs.ListLaws.{as_long, few_so}
-use Rattle.jk_server.specs.Parts.{IsOver, slot_start}
+use Rattle.jk_server.specs.Parts.{WorkerIsOver, slot_start}
 use Rattle.jk_server.specs.RunTells.{logging}
 use Rattle.jk_server.specs.ServedGears.{BeginsSo, start_side}
 use Rattle.jk_server.specs.Worker.{MayBegin}
@@ -72,7 +72,7 @@ serve_slots-requires-send-R g c κs within =
 
 pub empty_slots-requires-clause-over : goal.empty_slots-requires-clause-over
 empty_slots-requires-clause-over g c = λ κs within.
-    over_after _ (λ s. IsOver s) 0 c.fill_slots.new.slots.items c.serve_slots.new.slots.items c.serve_slots.ensures.served
+    over_after _ (λ s. WorkerIsOver s) 0 c.fill_slots.new.slots.items c.serve_slots.new.slots.items c.serve_slots.ensures.served
     (λ k a b did. (did.fit.none_held, did.fit.idle))
 
 pub empty_slots-requires-clause-room : goal.empty_slots-requires-clause-room
