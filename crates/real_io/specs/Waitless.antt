@@ -1,7 +1,7 @@
 -- Reads that don't wait.
 use Rattle.std.specs.Prelude.{◌≡◌, ℕ, ℤ, pos, ⊤, ◌⊎◌}
-use Rattle.real_io.specs.declared.stream_end.AtHand.{AtHand}
-use Rattle.real_io.specs.declared.stream_end.AtHand.TheVariants.{Came, Nothing, Broken}
+use Rattle.real_io.specs.declared.waited_stream.AtHand.{AtHand}
+use Rattle.real_io.specs.declared.waited_stream.AtHand.TheVariants.{Came, Nothing, Broken}
 
 -- the flags of a read that doesn't wait: that takes what is there, or leaves it
 abbrev pub IsWaitless : ℤ → Type 0

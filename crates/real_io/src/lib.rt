@@ -24,6 +24,7 @@ mod tcp_dial;
 mod tcp_door;
 mod tcp_link;
 mod unflushed;
+mod waited_stream;
 
 pub use ending::Ending;
 pub use heads::{MAX_HEAD_BYTES, head_end};
@@ -36,7 +37,8 @@ pub use pace::{PACE_SECONDS, Pace};
 pub use passing::{is_passing, is_wanting, pause};
 pub use real_files::{RealClock, RealFiles};
 pub use std_streams::{ReadSource, StdIn, StdOut};
-pub use stream_end::{AtHand, StreamEnd};
+pub use stream_end::StreamEnd;
 pub use tcp_dial::{DIAL_MILLIS, TcpDial};
 pub use tcp_door::{CLIENT_SECONDS, MAX_ACCEPT_TRIES, TcpDoor};
 pub use tcp_link::{AHEAD_BYTES, LinkParts, TcpLink, room_ahead};
+pub use waited_stream::AtHand;

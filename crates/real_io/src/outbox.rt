@@ -4,7 +4,8 @@ ghost use Rattle.real_io.specs.Held.{HoldsRest};
 ghost use Rattle.real_io.specs.Waitless.{IfCame};
 
 use crate::held_bytes::HeldBytes;
-use crate::stream_end::{AtHand, StreamEnd};
+use crate::stream_end::StreamEnd;
+use crate::waited_stream::AtHand;
 use jk_io::{Awaited, NoMemory, Sink};
 use std::alloc::Global;
 use std::sync::{Arc, Mutex};

@@ -8,6 +8,7 @@ use crate::outbox::Outbox;
 use crate::passing::{is_wanting, pause};
 use crate::stream_end::StreamEnd;
 use crate::tcp_link::{TcpLink, room_ahead};
+use crate::waited_stream::WaitedStream;
 use jk_io::{Bytes, Dial, IoError, NoMemory};
 use libc::net as c;
 use std::alloc::Global;
@@ -101,7 +102,7 @@ impl<'r, R: Net<Stream = TcpStream>> TcpDial<'r, R> {
             Some(notices) => Some(Watched::new(notices, host, port)?),
             None => None,
         };
-        StreamEnd::of_member(alloc, stream, ending, watched)
+        Ok(StreamEnd::over(WaitedStream::of_member(alloc, stream, ending, watched)?))
     }
 
     fn link_over(&self, alloc: Global, end: StreamEnd) -> Result<TcpLink, NoMemory> {

@@ -5,8 +5,9 @@ ghost use Rattle.jk_io.specs.Told.{Rose, HasCause};
 
 use crate::outbox::Outbox;
 use crate::passing::{is_passing, pause};
-use crate::stream_end::{StreamEnd, Waits};
+use crate::stream_end::StreamEnd;
 use crate::tcp_link::{TcpLink, room_ahead};
+use crate::waited_stream::{WaitedStream, Waits};
 use jk_io::{Bytes, Door, IoError, NoMemory, Peer};
 use std::alloc::Global;
 use std::net::{IpAddr, SocketAddr, TcpListener, TcpStream};
@@ -193,7 +194,8 @@ impl ClientRoom {
         } = self;
         let _ = write!(address, "{ip}");
         let addr = Bytes::from_vec(address.into_bytes());
-        let end = StreamEnd::patient(stream, CLIENT_SECONDS * 1_000, waits);
+        let stream = WaitedStream::patient(stream, CLIENT_SECONDS * 1_000, waits);
+        let end = StreamEnd::over(stream);
         let link = match outbox {
             Some(outbox) => TcpLink::held_by(outbox, end, ahead),
             None => TcpLink::over(end, ahead),

@@ -1,6 +1,0 @@
-use Rattle.std.proofs.Common.{◌≡◌}
-use Rattle.real_io.proofs.stream_end.StreamEnd.send.Given as goal
-
--- no failure is counted yet
-abbrev pub invariant-loop : goal.invariant-loop
-invariant-loop l = l.self.failed ≡ l.initial.self.failed
