@@ -35,7 +35,7 @@ pub use notices::{Notices, Tally};
 pub use outbox::Outbox;
 pub use pace::{PACE_SECONDS, Pace};
 pub use passing::{is_passing, is_wanting, pause};
-pub use real_files::{RealClock, RealFiles};
+pub use real_files::{RealClock, RealFiles, is_of_socket};
 pub use std_streams::{ReadSource, StdIn, StdOut};
 pub use stream_end::StreamEnd;
 pub use tcp_dial::{DIAL_MILLIS, TcpDial};

@@ -1,5 +1,6 @@
 //! The files and the clock of the system.
-ghost use Rattle.std.specs.Prelude.{◌≡◌, ◌≤◌, IfOk, false, length, true};
+ghost use Rattle.std.specs.Prelude.{◌≡◌, ◌≤◌, ◌↔◌, IfOk, IsTrue, Some, false, length, pos, true};
+ghost use Rattle.std.specs.IoError.{raw_os_error};
 ghost use Rattle.jk_io.specs.Told.{Rose};
 
 use crate::std_streams::ReadSource;
@@ -73,6 +74,13 @@ impl<'r, R: SystemFiles + Net> Files for RealFiles<'r, R> {
     }
 }
 
+/// Whether a file can't be opened since it is a socket, which is dialled.
+pub fn is_of_socket(error: &io::Error) -> bool
+    ensures { IsTrue result ↔ (raw_os_error error.now ≡ Some (pos 6)) }
+{
+    error.raw_os_error() == Some(IS_SOCKET)
+}
+
 // A name that isn't UTF-8 is that of no file.
 fn read_named<R: SystemFiles + Net>(
     rt: &R,
@@ -88,7 +96,7 @@ fn read_named<R: SystemFiles + Net>(
     match fs::open(rt, path) {
         Ok(_) if sockets => Err(FileError::Failed),
         Ok(file) => read_whole(alloc, &mut ReadSource::new(file)),
-        Err(error) if error.raw_os_error() == Some(IS_SOCKET) => read_answer(rt, alloc, path),
+        Err(error) if is_of_socket(&error) => read_answer(rt, alloc, path),
         Err(_) => Err(FileError::Failed),
     }
 }

@@ -1,5 +1,6 @@
 //! Dialling members over TCP.
-ghost use Rattle.std.specs.Prelude.{◌≡◌, ◌-◌};
+ghost use Rattle.std.specs.Prelude.{◌≡◌, ◌-◌, ◌*◌, ◌^◌, ◌<◌, ◌≤◌, IsSomeAnd, None};
+ghost use Rattle.std.specs.Duration.{as_nanos};
 
 use crate::ending::Ending;
 use crate::moments::moment;
@@ -40,7 +41,7 @@ pub struct TcpDial<'r, R: Net<Stream = TcpStream>> {
 
 impl<'r, R: Net<Stream = TcpStream>> TcpDial<'r, R> {
     pub fn new(rt: &'r R) -> TcpDial<'r, R>
-        ensures { result.failed ≡ 0 }
+        ensures { (result.failed ≡ 0) × (result.millis ≡ 10000) }
     {
         TcpDial {
             rt,
@@ -198,8 +199,12 @@ fn connect_to<R: Net<Stream = TcpStream>>(
 /// The longest wait for one address where a dial has no limit.
 const LONG_SECONDS: u64 = 3_600;
 
-// How long a dial may still wait.
-fn time_left(begun: u64, millis: u64, now: u64) -> Option<Duration> {
+// How long a dial may still wait for one address: an hour where it has no limit.
+fn time_left(begun: u64, millis: u64, now: u64) -> Option<Duration>
+    ensures unlimited { millis ≡ 0 → IsSomeAnd result (λ time. as_nanos time ≡ 3600 * 10 ^ 9) }
+    ensures left { 0 < millis - (now - begun) → IsSomeAnd result (λ time. as_nanos time ≡ (millis - (now - begun)) * 10 ^ 6) }
+    ensures none { 0 < millis → millis ≤ now - begun → result ≡ None }
+{
     if millis == 0 {
         return Some(Duration::from_secs(LONG_SECONDS));
     }

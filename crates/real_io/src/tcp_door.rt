@@ -2,6 +2,7 @@
 ghost use Rattle.std.specs.Prelude.{◌≡◌, ◌≢◌, ◌+◌, ◌-◌, ◌<◌, ◌≤◌, ◌↔◌, Some, IsTrue, IsOk, IfOk, OnErr, IfSome, IfNone};
 ghost use Rattle.std.specs.Option.{option_map};
 ghost use Rattle.jk_io.specs.Told.{Rose, HasCause};
+ghost use Rattle.real_io.specs.declared.waited_stream.Patience.TheVariants as patience;
 
 use crate::outbox::Outbox;
 use crate::passing::{is_passing, pause};
@@ -194,14 +195,20 @@ impl ClientRoom {
         } = self;
         let _ = write!(address, "{ip}");
         let addr = Bytes::from_vec(address.into_bytes());
-        let stream = WaitedStream::patient(stream, CLIENT_SECONDS * 1_000, waits);
-        let end = StreamEnd::over(stream);
+        let end = client_end(stream, waits);
         let link = match outbox {
             Some(outbox) => TcpLink::held_by(outbox, end, ahead),
             None => TcpLink::over(end, ahead),
         };
         (link, Peer { addr })
     }
+}
+
+// A client's end. A read or a write of it fails after a minute.
+fn client_end(stream: TcpStream, waits: Box<Waits>) -> StreamEnd
+    ensures { result.stream.waits.value.patience ≡ patience.Each 60000 }
+{
+    StreamEnd::over(WaitedStream::patient(stream, CLIENT_SECONDS * 1_000, waits))
 }
 
 // The next client; what fails for a passing reason is tried again after a while.

@@ -120,7 +120,9 @@ impl WaitedStream {
     }
 
     /// A stream of which each read and each write waits so many milliseconds at most. It takes no memory.
-    pub(crate) fn patient(stream: TcpStream, millis: u64, waits: Box<Waits>) -> WaitedStream {
+    pub(crate) fn patient(stream: TcpStream, millis: u64, waits: Box<Waits>) -> WaitedStream
+        ensures { result.waits.value.patience ≡ Patience.Each millis }
+    {
         let mut waited = WaitedStream::over(stream, waits);
         waited.come_back_after(millis);
         waited.waits.patience = Patience::Each(millis);
