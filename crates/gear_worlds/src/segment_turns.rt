@@ -1,6 +1,7 @@
 //! How far each journal of a run is in files: its segments are written in order, whichever threads cut them, and a hold waits
 //! that might leave more entries in no file than may be lost.
 ghost use Rattle.std.specs.Prelude.{◌≡◌, ◌≢◌, ◌↔◌, ◌⊎◌, ◌+◌, ◌-◌, ◌^◌, ◌<◌, ◌≤◌, true, false, min, IsTrue};
+ghost use Rattle.std.specs.Duration.{as_nanos};
 ghost use Rattle.gear_worlds.specs.Unkept.{MayBegin};
 
 use crate::unkept::Unkept;
@@ -11,6 +12,13 @@ use std::time::{Clock, Duration};
 
 /// For how long a thread waits for the next segment that others write, in milliseconds.
 const WAIT_MILLIS: u64 = 1_000;
+
+// For how long a thread waits at a time: a second.
+fn longest_wait() -> Duration
+    ensures { as_nanos result ≡ 10 ^ 9 }
+{
+    Duration::from_millis(WAIT_MILLIS)
+}
 
 /// How far the journal of a balancer is in files.
 #[derive(Drop)]
@@ -26,6 +34,19 @@ struct Progress {
 }
 
 impl Progress {
+    // Nothing is in files yet of a journal that begins with this number, and nobody waits.
+    fn begun(first: u64) -> Progress
+        ensures end { result.end ≡ first }
+        ensures none { (result.unkept.entries ≡ 0) × (result.unkept.holds ≡ 0) × (result.is_late ≡ false) × (result.waiting ≡ 0) }
+    {
+        Progress {
+            end: first,
+            unkept: Unkept::none(),
+            is_late: false,
+            waiting: 0,
+        }
+    }
+
     // Whether it is still waited until the entries before this number are in files.
     fn is_before(&self, number: u64) -> bool
         ensures { IsTrue result ↔ (self.now.end < number) × (self.now.is_late ≡ false) }
@@ -115,14 +136,8 @@ struct Place {
 
 impl Place {
     fn new(first: u64) -> Place {
-        let progress = Progress {
-            end: first,
-            unkept: Unkept::none(),
-            is_late: false,
-            waiting: 0,
-        };
         Place {
-            progress: Mutex::new(progress),
+            progress: Mutex::new(Progress::begun(first)),
             may_begin: Condvar::new(),
             written: Condvar::new(),
         }
@@ -132,7 +147,7 @@ impl Place {
     fn wait_for_turn<R: Wait + Clock>(&self, rt: &R, number: u64) -> bool {
         let guard = self.progress.lock(rt);
         let before = guard.end;
-        let most = Duration::from_millis(WAIT_MILLIS);
+        let most = longest_wait();
         let (mut now, waited) = self
             .written
             .wait_timeout_while(rt, guard, most, |now| now.is_before(number));
@@ -164,7 +179,7 @@ impl Place {
         let mut guard = self.progress.lock(rt);
         guard.waiting = guard.waiting.saturating_add(1);
         let before = guard.end;
-        let most = Duration::from_millis(WAIT_MILLIS);
+        let most = longest_wait();
         let (mut now, waited) = self
             .may_begin
             .wait_timeout_while(rt, guard, most, |now| !now.begins(entries, cut_at));
