@@ -1,3 +1,4 @@
+pub mod AskedTexts
 pub mod Causes
 pub mod Checked
 pub mod Dry

@@ -1,4 +1,9 @@
 //! The texts that are printed where the words are no command, and those that words ask for.
+ghost use Rattle.std.specs.Prelude.{◌≡◌, IfOk, is_some};
+ghost use Rattle.std.specs.Str.{bytes_eq};
+ghost use Rattle.jk_cli.specs.Names.{name_of};
+ghost use Rattle.plain_commands.specs.AskedTexts.{asks_help, asks_text, asks_version};
+
 use clap::error::ErrorKind;
 use jk_cli::{command, name_of};
 use jk_io::{Bytes, NoMemory};
@@ -8,24 +13,34 @@ use std::str;
 /// What is printed last where the words are no command, after what is wrong with them and how the command is used.
 pub const USAGE: &str = "jkd --help shows the commands.\n";
 
-fn is(word: &Bytes, text: &[u8]) -> bool {
+fn is(word: &Bytes, text: &[u8]) -> bool
+    ensures { result ≡ bytes_eq word.now text.now }
+{
     word.as_slice() == text
 }
 
-fn asks_help(word: &Bytes) -> bool {
+fn asks_help(word: &Bytes) -> bool
+    ensures { result ≡ asks_help word.now }
+{
     is(word, b"--help") || is(word, b"-h")
 }
 
-fn asks_version(word: &Bytes) -> bool {
+fn asks_version(word: &Bytes) -> bool
+    ensures { result ≡ asks_version word.now }
+{
     is(word, b"--version") || is(word, b"-V")
 }
 
-fn names_command(word: &Bytes) -> bool {
+fn names_command(word: &Bytes) -> bool
+    ensures { result ≡ is_some (name_of word.now) }
+{
     name_of(word.as_slice()).is_some()
 }
 
 /// Whether the words ask for a text: `--help`, `--version`, `COMMAND --help`, or `help`, alone or before a command.
-fn ask_for_text(words: &[Bytes]) -> bool {
+fn ask_for_text(words: &[Bytes]) -> bool
+    ensures { result ≡ asks_text words.now }
+{
     match words {
         [word] => asks_help(word) || asks_version(word) || is(word, b"help"),
         [first, second] => {
@@ -73,7 +88,9 @@ fn text_of(alloc: Global, words: &[Bytes]) -> Result<String, NoMemory> {
 }
 
 /// The text that the words ask for, where they ask for one.
-pub fn asked_text(alloc: Global, words: &[Bytes]) -> Result<Option<String>, NoMemory> {
+pub fn asked_text(alloc: Global, words: &[Bytes]) -> Result<Option<String>, NoMemory>
+    ensures { IfOk result (λ text. is_some text ≡ asks_text words.now) }
+{
     if ask_for_text(words) {
         Ok(Some(text_of(alloc, words)?))
     } else {
