@@ -1,23 +1,15 @@
 //! Lines of a script, by the calls below `play`.
 use crate::row_text::RowText;
-use jk_io::{Bytes, ListOf, NoMemory};
+use jk_io::{Bytes, NoMemory};
 use lb_model::{Activation, LbConfig, MemberConfig, MemberRow, MemberState};
 use play_script::{BegunScript, NameList, Parts, Step, begin, put_rows, step_of};
 use std::alloc::Global;
 
 fn names_of(alloc: Global) -> Result<NameList, NoMemory> {
-    let mut names = ListOf::new(alloc);
+    let mut names = NameList::new(alloc);
     names.push(Bytes::from_slice(alloc, b"a")?)?;
     names.push(Bytes::from_slice(alloc, b"b")?)?;
     Ok(names)
-}
-
-fn step_among(names: &NameList, line: &[u8]) -> Option<Step> {
-    if names.len() == 2 {
-        step_of(names, line)
-    } else {
-        None
-    }
 }
 
 fn put_step(alloc: Global, out: &mut RowText, step: Option<Step>) -> Result<(), NoMemory> {
@@ -28,7 +20,7 @@ fn put_step(alloc: Global, out: &mut RowText, step: Option<Step>) -> Result<(), 
 
 /// What a line says where the members are a and b.
 pub fn tell_step(alloc: Global, line: &[u8], out: &mut RowText) -> Result<(), NoMemory> {
-    let step = step_among(&names_of(alloc)?, line);
+    let step = step_of(&names_of(alloc)?, line);
     put_step(alloc, out, step)
 }
 
@@ -87,10 +79,6 @@ fn put_config(alloc: Global, out: &mut RowText, config: &LbConfig) -> Result<(),
 }
 
 fn put_draft(alloc: Global, out: &mut RowText, begun: &BegunScript<'_>) -> Result<(), NoMemory> {
-    if begun.draft.names().len() > 64 {
-        out.put(b"too many members\n");
-        return Ok(());
-    }
     match begun.draft.config() {
         Ok(config) => put_config(alloc, out, &config)?,
         Err(_) => out.put(b"no balancer\n"),

@@ -3,3 +3,4 @@ pub mod DraftLemmas
 pub mod PlayLemmas
 pub mod FormLaws
 pub mod OnlyForms
+pub mod StepLaws

@@ -1,5 +1,5 @@
 //! The balancer of a script while its lines are read.
-ghost use Rattle.std.specs.Prelude.{◌≡◌, ◌<◌, ◌^◌, map, length, IfOk, OnOk, IsErrOf};
+ghost use Rattle.std.specs.Prelude.{◌≡◌, map, IfOk, OnOk, IsErrOf};
 ghost use Rattle.std.specs.List.{list_all};
 ghost use Rattle.std.specs.Option.{option_copied};
 ghost use Rattle.play_script.specs.Drafts.{leads_to_member, has_targets, config_of, configs_of};
@@ -55,7 +55,6 @@ impl<'a> Model for Draft<'a> {
 }
 
 fn leads_to_member(names: &NameList, redirect: Option<&[u8]>) -> bool
-    requires { length names.now < 2 ^ 32 }
     ensures { result ≡ leads_to_member names.now (option_copied redirect.entry) }
 {
     match redirect {
@@ -65,7 +64,6 @@ fn leads_to_member(names: &NameList, redirect: Option<&[u8]>) -> bool
 }
 
 fn all_lead(names: &NameList, members: &[MemberLine]) -> bool
-    requires { length names.now < 2 ^ 32 }
     ensures { result ≡ list_all (λ m. leads_to_member names.now (words_of_member m).redirect) members.now }
 {
     members
@@ -75,14 +73,12 @@ fn all_lead(names: &NameList, members: &[MemberLine]) -> bool
 
 #[tactic(auto, using(crate::proofs::DraftLemmas::all_lead_of))]
 fn has_targets(names: &NameList, members: &[MemberLine]) -> bool
-    requires { length names.now < 2 ^ 32 }
     ensures { result ≡ has_targets names.now (map words_of_member members.now) }
 {
     all_lead(names, members)
 }
 
 fn config_of(alloc: Global, names: &NameList, member: &MemberLine) -> Result<MemberConfig, NoMemory>
-    requires { length names.now < 2 ^ 32 }
     ensures { IfOk result (λ c. c ≡ config_of names.now (words_of_member member.now)) }
 {
     let redirect = match member.redirect {
@@ -105,7 +101,6 @@ fn configs_of(
     names: &NameList,
     members: &[MemberLine],
 ) -> Result<MemberList, NoMemory>
-    requires { length names.now < 2 ^ 32 }
     ensures { IfOk result (λ list. list ≡ configs_of names.now (map words_of_member members.now)) }
 {
     let mut configs = Vec::with_capacity(alloc, members.len())?;
@@ -131,7 +126,7 @@ impl<'a> Draft<'a> {
                 recover: 60,
             },
             members: Vec::new(alloc),
-            names: ListOf::new(alloc),
+            names: NameList::new(alloc),
         }
     }
 
@@ -153,7 +148,7 @@ impl<'a> Draft<'a> {
     pub fn add(&mut self, member: MemberLine<'a>) -> Result<(), NoMemory>
         ensures { OnOk result (self.new ≡ with_member (words_of_member member.entry) self.old) }
     {
-        let name = Bytes::from_slice(self.names.allocator(), member.name)?;
+        let name = Bytes::from_slice(*self.members.allocator(), member.name)?;
         self.members.reserve(1)?;
         self.names.push(name)?;
         self.members.push(member).unwrap();
@@ -162,7 +157,6 @@ impl<'a> Draft<'a> {
 
     /// The configuration that the lines describe.
     pub fn config(&self) -> Result<LbConfig, DraftError>
-        requires { length (names_in self.now) < 2 ^ 32 }
         ensures ok { IfOk result (λ c. IsConfigOf self.now c) }
         ensures refused { IsErrOf result DraftError.NoBalancer → IsNoBalancer self.now }
     {
@@ -170,7 +164,7 @@ impl<'a> Draft<'a> {
         if !has_targets(&self.names, members) {
             return Err(DraftError::NoBalancer);
         }
-        let configs = configs_of(self.names.allocator(), &self.names, members)?;
+        let configs = configs_of(*self.members.allocator(), &self.names, members)?;
         let rules = self.rules;
         let made = LbConfig::new(
             rules.method,

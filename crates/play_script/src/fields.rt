@@ -1,5 +1,5 @@
 //! Fields KEY=VALUE of a line.
-ghost use Rattle.std.specs.Prelude.{◌≡◌, ◌<◌, ◌^◌, List, ℕ, length, IfSome, option_map, codes};
+ghost use Rattle.std.specs.Prelude.{◌≡◌, option_map, codes};
 ghost use Rattle.std.specs.Option.{option_copied};
 ghost use Rattle.play_script.specs.Values.{value_of, past};
 ghost use Rattle.play_script.specs.Fields.{activation_in, number_in, name_in, redirect_of, redirect_in};
@@ -32,7 +32,6 @@ pub(crate) fn number_in(words: &mut Parts, key: &[u8]) -> Option<Option<u32>>
 }
 
 fn redirect_of(names: &NameList, text: &[u8]) -> Option<Redirect>
-    requires { length names.now < 2 ^ 32 }
     ensures { result ≡ redirect_of names.now text.now }
 {
     if is(text, b"-") {
@@ -44,7 +43,6 @@ fn redirect_of(names: &NameList, text: &[u8]) -> Option<Redirect>
 
 /// A field `redirect=NAME` or `redirect=-` of an update.
 pub(crate) fn redirect_in(names: &NameList, words: &mut Parts) -> Option<Redirect>
-    requires { length names.now < 2 ^ 32 }
     ensures value { result ≡ redirect_in names.now words.old }
     ensures past { words.new ≡ past (codes "redirect=") words.old }
 {

@@ -1,5 +1,5 @@
 //! Lines of a script before its balancer starts: `lb` and `member`.
-ghost use Rattle.std.specs.Prelude.{◌≡◌, ℕ, ◌<◌, ◌^◌, List, ◌∷◌, Some, length, option_map};
+ghost use Rattle.std.specs.Prelude.{◌≡◌, ℕ, List, ◌∷◌, Some, option_map};
 ghost use Rattle.play_script.specs.Heads.{rules_of, member_after, member_with, member_of, head_by, head_of};
 ghost use Rattle.play_script.specs.Values.{flag_of, method_of};
 ghost use Rattle.play_script.specs.Words.{words_of_member, words_of_head};
@@ -103,7 +103,6 @@ fn member_with<'a>(name: &'a [u8], factor: u32, words: &mut Parts<'a>) -> Option
 }
 
 fn member_of<'a>(names: &NameList, words: &mut Parts<'a>) -> Option<MemberLine<'a>>
-    requires { length names.now < 2 ^ 32 }
     ensures { option_map words_of_member result ≡ member_of names.now words.old }
 {
     let name = words.next()?;
@@ -115,7 +114,6 @@ fn member_of<'a>(names: &NameList, words: &mut Parts<'a>) -> Option<MemberLine<'
 }
 
 fn head_by<'a>(names: &NameList, verb: Verb, words: &mut Parts<'a>) -> Option<ScriptHead<'a>>
-    requires { length names.now < 2 ^ 32 }
     ensures { option_map words_of_head result ≡ head_by names.now verb words.old }
 {
     match verb {
@@ -128,7 +126,6 @@ fn head_by<'a>(names: &NameList, verb: Verb, words: &mut Parts<'a>) -> Option<Sc
 
 /// What a line before the balancer's start says, where the members so far have these names. `None`: another line.
 pub fn head_of<'a>(names: &NameList, line: &'a [u8]) -> Option<ScriptHead<'a>>
-    requires { length names.now < 2 ^ 32 }
     ensures { option_map words_of_head result ≡ head_of names.now line.now }
 {
     let mut words = Parts::of(b' ', line);

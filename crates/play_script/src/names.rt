@@ -1,13 +1,59 @@
 //! Names of members.
-ghost use Rattle.std.specs.Prelude.{◌≡◌, ◌<◌, ◌^◌, length};
+ghost use Rattle.std.specs.Prelude.{◌≡◌, [], ◌∷◌, ◌++◌, OnOk, OnErr, slice_get};
 ghost use Rattle.std.specs.List.{list_all};
+ghost use Rattle.std.specs.Option.{option_copied};
 ghost use Rattle.std.specs.Str.{bytes_eq};
 ghost use Rattle.play_script.specs.Names.{is_name_byte, is_name, index_of};
 
-use jk_io::{Bytes, ListOf};
+use jk_io::{Bytes, ListOf, NoMemory};
+use std::alloc::Global;
+use std::marker::Model;
 
-/// The members' names, in order.
-pub type NameList = ListOf<Bytes>;
+/// The members' names, in order: fewer than 2^32, so that a u32 tells which.
+#[derive(Drop)]
+pub struct NameList {
+    names: ListOf<Bytes>,
+}
+
+impl Model for NameList {
+    ghost use Rattle.std.specs.Prelude.{ℕ, ◌<◌, ◌^◌, List, length};
+
+    ghost Value = { List (List ℕ) };
+
+    ghost view = { λ n. n.names };
+
+    ghost invariant = { λ n. length n.names < 2 ^ 32 };
+}
+
+impl NameList {
+    /// No name yet. No memory is taken.
+    pub fn new(alloc: Global) -> NameList
+        ensures { result ≡ [] }
+    {
+        NameList {
+            names: ListOf::new(alloc),
+        }
+    }
+
+    /// Adds a name at the end. There is no memory for one more after 2^32 - 1 of them.
+    pub fn push(&mut self, name: Bytes) -> Result<(), NoMemory>
+        ensures ok { OnOk result (self.new ≡ self.old ++ name ∷ []) }
+        ensures err { OnErr result (self.new ≡ self.old) }
+    {
+        if self.names.len() >= u32::MAX as usize {
+            return Err(NoMemory);
+        }
+        self.names.push(name)?;
+        Ok(())
+    }
+
+    /// The name of a member.
+    pub(crate) fn get(&self, member: usize) -> Option<&Bytes>
+        ensures { option_copied result ≡ slice_get self.now member }
+    {
+        self.names.get(member)
+    }
+}
 
 fn is_name_byte(byte: u8) -> bool
     ensures { result ≡ is_name_byte byte }
@@ -42,9 +88,8 @@ fn find(names: &[Bytes], name: &[u8]) -> Option<usize>
 
 /// The first member that has the name.
 pub fn index_of(names: &NameList, name: &[u8]) -> Option<u32>
-    requires { length names.now < 2 ^ 32 }
     ensures { result ≡ index_of names.now name.now }
 {
-    let at = find(names.as_slice(), name)?;
+    let at = find(names.names.as_slice(), name)?;
     Some(at as u32)
 }

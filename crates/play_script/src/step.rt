@@ -1,8 +1,7 @@
 //! Lines of a script after its balancer started.
-ghost use Rattle.std.specs.Prelude.{◌≡◌, ℕ, ◌<◌, ◌^◌, List, [], length, false, true, None, Some, ◌≤◌, IfSome, option_map};
+ghost use Rattle.std.specs.Prelude.{◌≡◌, ℕ, List, false, true, None, Some, IfSome, option_map};
 ghost use Rattle.play_script.specs.Values.{end};
-ghost use Rattle.play_script.specs.Steps.{ask_of, old_ask, select_of, bytes_in, return_of, change_after, change_of, update_of, member_named, step_by, step_of, HasSmallBytes, IsSmall};
-ghost use Rattle.lb_model.specs.declared.journal.TheConstants.{MOST_BYTES};
+ghost use Rattle.play_script.specs.Steps.{ask_of, old_ask, select_of, bytes_in, return_of, change_after, change_of, update_of, member_named, step_by, step_of, IsSmall};
 
 use crate::fields::{activation_in, number_in, redirect_in};
 use crate::names::{NameList, index_of};
@@ -36,7 +35,6 @@ fn ask_of(fresh: bool, routed: Option<u32>) -> Ask
 }
 
 fn old_ask(names: &NameList, word: &[u8]) -> Option<Ask>
-    requires { length names.now < 2 ^ 32 }
     ensures { result ≡ old_ask names.now word.now }
 {
     if is(word, b"old") {
@@ -48,7 +46,6 @@ fn old_ask(names: &NameList, word: &[u8]) -> Option<Ask>
 }
 
 fn select_of(names: &NameList, words: &mut Parts) -> Option<Ask>
-    requires { length names.now < 2 ^ 32 }
     ensures { result ≡ select_of names.now words.old }
 {
     let Some(word) = words.next() else {
@@ -59,8 +56,7 @@ fn select_of(names: &NameList, words: &mut Parts) -> Option<Ask>
 }
 
 fn bytes_in(words: &mut Parts) -> Option<u64>
-    ensures value { result ≡ bytes_in words.old }
-    ensures small { IfSome result (λ n. n ≤ MOST_BYTES) }
+    ensures { result ≡ bytes_in words.old }
 {
     let Some(word) = words.next() else {
         return Some(0);
@@ -70,8 +66,7 @@ fn bytes_in(words: &mut Parts) -> Option<u64>
 }
 
 fn return_of(kind: Kind, words: &mut Parts) -> Option<Call>
-    ensures value { result ≡ return_of kind words.old }
-    ensures small { IfSome result HasSmallBytes }
+    ensures { result ≡ return_of kind words.old }
 {
     let ticket = parse_decimal(words.next()?)?;
     let bytes = bytes_in(words)?;
@@ -88,7 +83,6 @@ fn change_after(
     factor: Option<u32>,
     words: &mut Parts,
 ) -> Option<Change>
-    requires { length names.now < 2 ^ 32 }
     ensures { result ≡ change_after names.now activation factor words.old }
 {
     let distance = number_in(words, b"distance=")?;
@@ -103,7 +97,6 @@ fn change_after(
 }
 
 fn change_of(names: &NameList, words: &mut Parts) -> Option<Change>
-    requires { length names.now < 2 ^ 32 }
     ensures { result ≡ change_of names.now words.old }
 {
     let activation = activation_in(words)?;
@@ -112,7 +105,6 @@ fn change_of(names: &NameList, words: &mut Parts) -> Option<Change>
 }
 
 fn update_of(names: &NameList, words: &mut Parts) -> Option<Command>
-    requires { length names.now < 2 ^ 32 }
     ensures { result ≡ update_of names.now words.old }
 {
     let member = index_of(names, words.next()?)?;
@@ -121,80 +113,65 @@ fn update_of(names: &NameList, words: &mut Parts) -> Option<Command>
 }
 
 fn member_named(names: &NameList, words: &mut Parts) -> Option<u32>
-    requires { length names.now < 2 ^ 32 }
     ensures { result ≡ member_named names.now words.old }
 {
     index_of(names, words.only()?)
 }
 
 fn moment_of(words: &mut Parts) -> Option<Step>
-    ensures value { (names : List (List ℕ)) → result ≡ step_by names Verb.At words.old }
-    ensures small { IfSome result IsSmall }
+    ensures { (names : List (List ℕ)) → result ≡ step_by names Verb.At words.old }
 {
     Some(Step::At(parse_decimal(words.only()?)?))
 }
 
 fn selected(names: &NameList, words: &mut Parts) -> Option<Step>
-    requires { length names.now < 2 ^ 32 }
-    ensures value { result ≡ step_by names.now Verb.Select words.old }
-    ensures small { IfSome result IsSmall }
+    ensures { result ≡ step_by names.now Verb.Select words.old }
 {
     Some(Step::Ask(Call::Select(select_of(names, words)?)))
 }
 
 fn returned(kind: Kind, words: &mut Parts) -> Option<Step>
-    ensures value { result ≡ option_map Step.Ask (return_of kind words.old) }
-    ensures small { IfSome result IsSmall }
+    ensures { result ≡ option_map Step.Ask (return_of kind words.old) }
 {
     Some(Step::Ask(return_of(kind, words)?))
 }
 
 fn maintained(words: &mut Parts) -> Option<Step>
-    ensures value { result ≡ option_map (λ _. Step.Ask Call.Maintain) (end words.old) }
-    ensures small { IfSome result IsSmall }
+    ensures { result ≡ option_map (λ _. Step.Ask Call.Maintain) (end words.old) }
 {
     words.end()?;
     Some(Step::Ask(Call::Maintain))
 }
 
 fn updated(names: &NameList, words: &mut Parts) -> Option<Step>
-    requires { length names.now < 2 ^ 32 }
-    ensures value { result ≡ step_by names.now Verb.Update words.old }
-    ensures small { IfSome result IsSmall }
+    ensures { result ≡ step_by names.now Verb.Update words.old }
 {
     Some(Step::Ask(Call::Admin(update_of(names, words)?)))
 }
 
 fn reset(names: &NameList, words: &mut Parts) -> Option<Step>
-    requires { length names.now < 2 ^ 32 }
-    ensures value { result ≡ step_by names.now Verb.Reset words.old }
-    ensures small { IfSome result IsSmall }
+    ensures { result ≡ step_by names.now Verb.Reset words.old }
 {
     let member = member_named(names, words)?;
     Some(Step::Ask(Call::Admin(Command::Reset { member })))
 }
 
 fn recovered(names: &NameList, words: &mut Parts) -> Option<Step>
-    requires { length names.now < 2 ^ 32 }
-    ensures value { result ≡ step_by names.now Verb.Recover words.old }
-    ensures small { IfSome result IsSmall }
+    ensures { result ≡ step_by names.now Verb.Recover words.old }
 {
     let member = member_named(names, words)?;
     Some(Step::Ask(Call::Admin(Command::Recover { member })))
 }
 
 fn shown(words: &mut Parts) -> Option<Step>
-    ensures value { result ≡ option_map (λ _. Step.Show) (end words.old) }
-    ensures small { IfSome result IsSmall }
+    ensures { result ≡ option_map (λ _. Step.Show) (end words.old) }
 {
     words.end()?;
     Some(Step::Show)
 }
 
 fn step_by(names: &NameList, verb: Verb, words: &mut Parts) -> Option<Step>
-    requires { length names.now < 2 ^ 32 }
-    ensures value { result ≡ step_by names.now verb words.old }
-    ensures small { IfSome result IsSmall }
+    ensures { result ≡ step_by names.now verb words.old }
 {
     match verb {
         Verb::Lb | Verb::Member => None,
@@ -213,7 +190,6 @@ fn step_by(names: &NameList, verb: Verb, words: &mut Parts) -> Option<Step>
 
 /// What a line says after the balancer's own lines, where its members have these names. `None`: a bad line.
 pub fn step_of(names: &NameList, line: &[u8]) -> Option<Step>
-    requires { length names.now < 2 ^ 32 }
     ensures value { result ≡ step_of names.now line.now }
     ensures small { IfSome result IsSmall }
 {

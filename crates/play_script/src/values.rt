@@ -1,5 +1,5 @@
 //! Single words of a script: counts, flags, methods, activations.
-ghost use Rattle.std.specs.Prelude.{◌≡◌, ◌≤◌, IfSome};
+ghost use Rattle.std.specs.Prelude.{◌≡◌};
 ghost use Rattle.play_script.specs.Values.{number_up_to, short_number, byte_count, flag_of, method_of, activation_of};
 
 use crate::parts::is;
@@ -7,8 +7,7 @@ use jk_io::parse_decimal;
 use lb_model::{Activation, MOST_BYTES, Method};
 
 fn number_up_to(most: u64, text: &[u8]) -> Option<u64>
-    ensures value { result ≡ number_up_to most text.now }
-    ensures small { IfSome result (λ n. n ≤ most) }
+    ensures { result ≡ number_up_to most text.now }
 {
     let number = parse_decimal(text)?;
     if number <= most { Some(number) } else { None }
@@ -27,8 +26,7 @@ pub(crate) fn short_number(text: &[u8]) -> Option<u32>
 
 /// The bytes of an exchange.
 pub(crate) fn byte_count(text: &[u8]) -> Option<u64>
-    ensures value { result ≡ byte_count text.now }
-    ensures small { IfSome result (λ n. n ≤ MOST_BYTES) }
+    ensures { result ≡ byte_count text.now }
 {
     number_up_to(MOST_BYTES, text)
 }
