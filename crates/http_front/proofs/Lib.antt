@@ -13,5 +13,6 @@ pub mod PathLemmas
 pub mod QuietLemmas
 pub mod RefusedLemmas
 pub mod SpelledLemmas
+pub mod StepLemmas
 pub mod TakeLemmas
 pub mod WalkLemmas

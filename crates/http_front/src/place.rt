@@ -153,6 +153,7 @@ pub fn data_step(place: Place, count: u64) -> Place
 }
 
 /// The place after a byte of the framing.
+#[tactic(auto, using(crate::proofs::StepLemmas::step_falls))]
 pub fn step(place: Place, byte: u8) -> Place
     requires framing { data_left place ≡ 0 }
     requires open_end { is_over place ≡ false }
@@ -176,18 +177,14 @@ pub fn step(place: Place, byte: u8) -> Place
 
 /// The place `next` after the byte that has to stand there; after any other byte, Bad.
 fn if_byte(byte: u8, wanted: u8, next: Place) -> Place
-    requires { exact_left next ≡ 0 }
-    ensures value { result ≡ (if byte == wanted then next else Place.Bad) }
-    ensures chunked { exact_left result ≡ 0 }
+    ensures { result ≡ (if byte == wanted then next else Place.Bad) }
 {
     if byte == wanted { next } else { Place::Bad }
 }
 
 /// The place after the LF of a chunk line.
 fn line_feed_step(size: u64, byte: u8) -> Place
-    ensures value { result ≡ (if byte == 10 then chunk_of size else Place.Bad) }
-    ensures falls { framing_left result < framing_left (Place.LineFeed size) }
-    ensures chunked { exact_left result ≡ 0 }
+    ensures { result ≡ (if byte == 10 then chunk_of size else Place.Bad) }
 {
     if byte != LF {
         return Place::Bad;
@@ -203,9 +200,7 @@ fn line_feed_step(size: u64, byte: u8) -> Place
 
 /// The place after a byte of a chunk line's digits.
 fn digits_step(count: u64, size: u64, byte: u8) -> Place
-    ensures value { result ≡ digits_step count size byte }
-    ensures falls { framing_left result < framing_left (Place.Digits count size) }
-    ensures chunked { exact_left result ≡ 0 }
+    ensures { result ≡ digits_step count size byte }
 {
     if let Some(digit) = hex_value(byte) {
         if count >= MAX_SIZE_DIGITS {
@@ -237,9 +232,7 @@ fn hex_value(byte: u8) -> Option<u64>
 
 /// The place after a byte of an extension.
 fn extension_step(size: u64, count: u64, byte: u8) -> Place
-    ensures value { result ≡ extension_step size count byte }
-    ensures falls { framing_left result < framing_left (Place.Extension size count) }
-    ensures chunked { exact_left result ≡ 0 }
+    ensures { result ≡ extension_step size count byte }
 {
     if byte == CR {
         return Place::LineFeed { size };
@@ -255,9 +248,7 @@ fn extension_step(size: u64, count: u64, byte: u8) -> Place
 
 /// The place after a byte at the beginning of a trailer line.
 fn trailer_step(left: u64, byte: u8) -> Place
-    ensures value { result ≡ trailer_step left byte }
-    ensures falls { framing_left result < framing_left (Place.Trailer left) }
-    ensures chunked { exact_left result ≡ 0 }
+    ensures { result ≡ trailer_step left byte }
 {
     if byte == CR {
         return Place::TrailerFeed;
@@ -270,9 +261,7 @@ fn trailer_step(left: u64, byte: u8) -> Place
 
 /// The place after a byte within a trailer line.
 fn trailer_line_step(left: u64, byte: u8) -> Place
-    ensures value { result ≡ trailer_line_step left byte }
-    ensures falls { framing_left result < framing_left (Place.TrailerLine left) }
-    ensures chunked { exact_left result ≡ 0 }
+    ensures { result ≡ trailer_line_step left byte }
 {
     if byte == CR {
         return Place::TrailerLineFeed { left };
