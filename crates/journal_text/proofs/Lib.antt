@@ -11,3 +11,4 @@ pub mod SplitFacts
 pub mod WideLemmas
 pub mod WordFacts
 pub mod WrittenLaws
+pub mod KeptLines

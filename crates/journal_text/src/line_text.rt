@@ -1,5 +1,5 @@
 //! A line of a journal's text, read.
-ghost use Rattle.std.specs.Prelude.{◌≡◌, ℕ, IfOk, IfSome};
+ghost use Rattle.std.specs.Prelude.{◌≡◌, IfOk, IfSome};
 ghost use Rattle.journal_text.specs.Lines.{line_text};
 ghost use Rattle.journal_text.specs.Readings.{balancer_line, line_by, line_of, member_line, said};
 ghost use Rattle.journal_text.specs.Ranges.{IsKeptLine};
@@ -15,7 +15,6 @@ use std::alloc::Global;
 
 fn balancer_line(alloc: Global, words: &mut Parts) -> Result<Option<Line>, NoMemory>
     ensures value { IfOk result (λ found. found ≡ balancer_line words.old) }
-    ensures kept { IfOk result (λ found. (rules : ℕ) → IfSome found (IsKeptLine rules)) }
 {
     let Some(name) = words.next() else {
         return Ok(None);
@@ -29,7 +28,6 @@ fn balancer_line(alloc: Global, words: &mut Parts) -> Result<Option<Line>, NoMem
 
 fn member_line(alloc: Global, words: &mut Parts) -> Result<Option<Line>, NoMemory>
     ensures value { IfOk result (λ found. found ≡ member_line words.old) }
-    ensures kept { IfOk result (λ found. (rules : ℕ) → IfSome found (IsKeptLine rules)) }
 {
     let Some(name) = words.next() else {
         return Ok(None);
@@ -56,7 +54,6 @@ fn line_by(
     words: &mut Parts,
 ) -> Result<Option<Line>, NoMemory>
     ensures value { IfOk result (λ found. found ≡ line_by rules verb.now words.old) }
-    ensures kept { IfOk result (λ found. IfSome found (IsKeptLine rules)) }
 {
     if is(verb, b"member") {
         member_line(alloc, words)
@@ -70,7 +67,6 @@ fn line_by(
 #[tactic(auto, unfolding(crate::specs::Readings::said))]
 fn said(alloc: Global, rules: u8, words: &mut Parts) -> Result<Option<Line>, NoMemory>
     ensures value { IfOk result (λ found. found ≡ said rules words.old) }
-    ensures kept { IfOk result (λ found. IfSome found (IsKeptLine rules)) }
 {
     match words.next() {
         None => Ok(None),

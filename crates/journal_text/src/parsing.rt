@@ -1,14 +1,14 @@
 //! Readings of a line's words, from the first one on.
-ghost use Rattle.std.specs.Prelude.{◌≡◌, ℕ, ◌-◌, ◌==◌, IfOk, IfSome, if◌then◌else◌};
+ghost use Rattle.std.specs.Prelude.{◌≡◌, ◌-◌, ◌==◌, IfSome, if◌then◌else◌};
 ghost use Rattle.journal_text.specs.Readings.{answer_by, answer_of, ask_after, ask_of, balancer_after, balancer_of, beginning_of, call_by, call_of, call_size, change_of, chosen_of, command_of, command_size, end_line, entry_after, entry_of, lease_line, member_after, member_of, past, plain_line, return_of, rules_line, update_of};
-ghost use Rattle.lb_model.specs.Legal.{KnowsTerms};
-ghost use Rattle.journal_text.specs.Ranges.{HasTicket, IsKeptCall, IsKeptLine};
 
 use crate::line::{BalancerValues, Beginning, Line, MemberValues};
 use crate::line_reading::{
-    activation_in, bytes_in, end, flag_in, given_activation_in, given_in, how_in, is, kind_in,
-    long_in, method_in, redirect_in, short_in, state_in, version_in, wide_in,
+    activation_of, byte_count, end, flag_of, given_activation, given_number, how_of, is, kind_of,
+    method_of, redirect_of, short_number, state_of, version_of,
 };
+use crate::wide::wide_number;
+use jk_io::parse_decimal;
 use lb_model::{Activation, Answer, Ask, Call, Change, Command, Entry, Method, Outcome};
 use play_script::Parts;
 
@@ -22,7 +22,6 @@ fn ask_after(
 ) -> Option<Ask>
     ensures value { result ≡ ask_after rules routed fresh tried words.old }
     ensures past { IfSome result (λ _. words.new ≡ past (if rules == 1 then 0 else 2) words.old) }
-    ensures kept { IfSome result (KnowsTerms rules) }
 {
     let mut ask = Ask {
         routed,
@@ -32,8 +31,8 @@ fn ask_after(
         stopped: 0,
     };
     if rules != 1 {
-        ask.disabled = long_in(words)?;
-        ask.stopped = long_in(words)?;
+        ask.disabled = parse_decimal(words.next()?)?;
+        ask.stopped = parse_decimal(words.next()?)?;
     }
     Some(ask)
 }
@@ -41,22 +40,20 @@ fn ask_after(
 fn ask_of(rules: u8, words: &mut Parts) -> Option<Ask>
     ensures value { result ≡ ask_of rules words.old }
     ensures past { IfSome result (λ _. words.new ≡ past (if rules == 1 then 3 else 5) words.old) }
-    ensures kept { IfSome result (KnowsTerms rules) }
 {
-    let routed = given_in(words)?;
-    let fresh = flag_in(words)?;
-    let tried = long_in(words)?;
+    let routed = given_number(words.next()?)?;
+    let fresh = flag_of(words.next()?)?;
+    let tried = parse_decimal(words.next()?)?;
     ask_after(rules, routed, fresh, tried, words)
 }
 
 fn return_of(words: &mut Parts) -> Option<Call>
     ensures value { result ≡ return_of words.old }
     ensures past { IfSome result (λ _. words.new ≡ past 3 words.old) }
-    ensures kept { (rules : ℕ) → IfSome result (IsKeptCall rules) }
 {
-    let ticket = long_in(words)?;
-    let kind = kind_in(words)?;
-    let bytes = bytes_in(words)?;
+    let ticket = parse_decimal(words.next()?)?;
+    let kind = kind_of(words.next()?)?;
+    let bytes = byte_count(words.next()?)?;
     Some(Call::Return {
         ticket,
         outcome: Outcome { kind, bytes },
@@ -68,10 +65,10 @@ fn change_of(words: &mut Parts) -> Option<Change>
     ensures value { result ≡ change_of words.old }
     ensures past { IfSome result (λ _. words.new ≡ past 4 words.old) }
 {
-    let activation = given_activation_in(words)?;
-    let factor = given_in(words)?;
-    let distance = given_in(words)?;
-    let redirect = redirect_in(words)?;
+    let activation = given_activation(words.next()?)?;
+    let factor = given_number(words.next()?)?;
+    let distance = given_number(words.next()?)?;
+    let redirect = redirect_of(words.next()?)?;
     Some(Change {
         activation,
         factor,
@@ -84,7 +81,7 @@ fn update_of(words: &mut Parts) -> Option<Command>
     ensures value { result ≡ update_of words.old }
     ensures past { IfSome result (λ _. words.new ≡ past 5 words.old) }
 {
-    let member = short_in(words)?;
+    let member = short_number(words.next()?)?;
     let change = change_of(words)?;
     Some(Command::Update { member, change })
 }
@@ -96,10 +93,10 @@ fn command_of(verb: &[u8], words: &mut Parts) -> Option<Command>
     if is(verb, b"update") {
         update_of(words)
     } else if is(verb, b"reset") {
-        let member = short_in(words)?;
+        let member = short_number(words.next()?)?;
         Some(Command::Reset { member })
     } else if is(verb, b"recover") {
-        let member = short_in(words)?;
+        let member = short_number(words.next()?)?;
         Some(Command::Recover { member })
     } else {
         None
@@ -109,7 +106,6 @@ fn command_of(verb: &[u8], words: &mut Parts) -> Option<Command>
 fn call_by(rules: u8, verb: &[u8], words: &mut Parts) -> Option<Call>
     ensures value { result ≡ call_by rules verb.now words.old }
     ensures past { IfSome result (λ c. words.new ≡ past (call_size rules c - 1) words.old) }
-    ensures kept { IfSome result (IsKeptCall rules) }
 {
     if is(verb, b"select") {
         Some(Call::Select(ask_of(rules, words)?))
@@ -126,7 +122,6 @@ fn call_by(rules: u8, verb: &[u8], words: &mut Parts) -> Option<Call>
 fn call_of(rules: u8, words: &mut Parts) -> Option<Call>
     ensures value { result ≡ call_of rules words.old }
     ensures past { IfSome result (λ c. words.new ≡ past (call_size rules c) words.old) }
-    ensures kept { IfSome result (IsKeptCall rules) }
 {
     let verb = words.next()?;
     call_by(rules, verb, words)
@@ -134,11 +129,10 @@ fn call_of(rules: u8, words: &mut Parts) -> Option<Call>
 
 fn chosen_of(seq: u64, words: &mut Parts) -> Option<Answer>
     ensures value { result ≡ chosen_of seq words.old }
-    ensures kept { IfSome result (HasTicket seq) }
 {
-    let member = short_in(words)?;
-    let how = how_in(words)?;
-    let probe = flag_in(words)?;
+    let member = short_number(words.next()?)?;
+    let how = how_of(words.next()?)?;
+    let probe = flag_of(words.next()?)?;
     end(words)?;
     Some(Answer::Chosen {
         member,
@@ -150,7 +144,6 @@ fn chosen_of(seq: u64, words: &mut Parts) -> Option<Answer>
 
 fn answer_by(seq: u64, verb: &[u8], words: &mut Parts) -> Option<Answer>
     ensures value { result ≡ answer_by seq verb.now words.old }
-    ensures kept { IfSome result (HasTicket seq) }
 {
     if is(verb, b"chosen") {
         return chosen_of(seq, words);
@@ -170,7 +163,6 @@ fn answer_by(seq: u64, verb: &[u8], words: &mut Parts) -> Option<Answer>
 #[tactic(auto, unfolding(crate::specs::Readings::answer_of))]
 fn answer_of(seq: u64, words: &mut Parts) -> Option<Answer>
     ensures value { result ≡ answer_of seq words.old }
-    ensures kept { IfSome result (HasTicket seq) }
 {
     let verb = words.next()?;
     answer_by(seq, verb, words)
@@ -179,7 +171,6 @@ fn answer_of(seq: u64, words: &mut Parts) -> Option<Answer>
 #[tactic(auto, unfolding(crate::specs::Readings::entry_after))]
 fn entry_after(rules: u8, seq: u64, session: u32, at: u64, words: &mut Parts) -> Option<Entry>
     ensures value { result ≡ entry_after rules seq session at words.old }
-    ensures kept { IfSome result (λ e. IsKeptLine rules (Line.Entry e)) }
 {
     let call = call_of(rules, words)?;
     let answer = answer_of(seq, words)?;
@@ -194,11 +185,10 @@ fn entry_after(rules: u8, seq: u64, session: u32, at: u64, words: &mut Parts) ->
 
 fn entry_of(rules: u8, words: &mut Parts) -> Option<Entry>
     ensures value { result ≡ entry_of rules words.old }
-    ensures kept { IfSome result (λ e. IsKeptLine rules (Line.Entry e)) }
 {
-    let seq = long_in(words)?;
-    let session = short_in(words)?;
-    let at = long_in(words)?;
+    let seq = parse_decimal(words.next()?)?;
+    let session = short_number(words.next()?)?;
+    let at = parse_decimal(words.next()?)?;
     entry_after(rules, seq, session, at, words)
 }
 
@@ -211,10 +201,10 @@ fn balancer_after(
 ) -> Option<BalancerValues>
     ensures value { result ≡ balancer_after method sticky force words.old }
 {
-    let direct = flag_in(words)?;
-    let maintain = long_in(words)?;
-    let recover = long_in(words)?;
-    let members = short_in(words)?;
+    let direct = flag_of(words.next()?)?;
+    let maintain = parse_decimal(words.next()?)?;
+    let recover = parse_decimal(words.next()?)?;
+    let members = short_number(words.next()?)?;
     end(words)?;
     Some(BalancerValues {
         method,
@@ -231,9 +221,9 @@ fn balancer_after(
 pub(crate) fn balancer_of(words: &mut Parts) -> Option<BalancerValues>
     ensures value { result ≡ balancer_of words.old }
 {
-    let method = method_in(words)?;
-    let sticky = flag_in(words)?;
-    let force = flag_in(words)?;
+    let method = method_of(words.next()?)?;
+    let sticky = flag_of(words.next()?)?;
+    let force = flag_of(words.next()?)?;
     balancer_after(method, sticky, force, words)
 }
 
@@ -246,10 +236,10 @@ fn member_after(
 ) -> Option<MemberValues>
     ensures value { result ≡ member_after factor distance activation words.old }
 {
-    let redirect = given_in(words)?;
-    let pool = short_in(words)?;
-    let state = state_in(words)?;
-    let load = wide_in(words)?;
+    let redirect = given_number(words.next()?)?;
+    let pool = short_number(words.next()?)?;
+    let state = state_of(words.next()?)?;
+    let load = wide_number(words.next()?)?;
     end(words)?;
     Some(MemberValues {
         factor,
@@ -266,9 +256,9 @@ fn member_after(
 pub(crate) fn member_of(words: &mut Parts) -> Option<MemberValues>
     ensures value { result ≡ member_of words.old }
 {
-    let factor = short_in(words)?;
-    let distance = short_in(words)?;
-    let activation = activation_in(words)?;
+    let factor = short_number(words.next()?)?;
+    let distance = short_number(words.next()?)?;
+    let activation = activation_of(words.next()?)?;
     member_after(factor, distance, activation, words)
 }
 
@@ -276,10 +266,10 @@ pub(crate) fn member_of(words: &mut Parts) -> Option<MemberValues>
 fn beginning_of(words: &mut Parts) -> Option<Beginning>
     ensures value { result ≡ beginning_of words.old }
 {
-    let next = long_in(words)?;
-    let at = long_in(words)?;
-    let maintained = long_in(words)?;
-    let chosen = given_in(words)?;
+    let next = parse_decimal(words.next()?)?;
+    let at = parse_decimal(words.next()?)?;
+    let maintained = parse_decimal(words.next()?)?;
+    let chosen = given_number(words.next()?)?;
     end(words)?;
     Some(Beginning {
         next,
@@ -291,28 +281,25 @@ fn beginning_of(words: &mut Parts) -> Option<Beginning>
 
 fn rules_line(words: &mut Parts) -> Option<Line>
     ensures value { result ≡ rules_line words.old }
-    ensures kept { (rules : ℕ) → IfSome result (IsKeptLine rules) }
 {
-    let version = version_in(words)?;
+    let version = version_of(words.next()?)?;
     end(words)?;
     Some(Line::Rules(version))
 }
 
 fn lease_line(words: &mut Parts) -> Option<Line>
     ensures value { result ≡ lease_line words.old }
-    ensures kept { (rules : ℕ) → IfSome result (IsKeptLine rules) }
 {
-    let ticket = long_in(words)?;
-    let member = short_in(words)?;
+    let ticket = parse_decimal(words.next()?)?;
+    let member = short_number(words.next()?)?;
     end(words)?;
     Some(Line::Lease { ticket, member })
 }
 
 fn end_line(words: &mut Parts) -> Option<Line>
     ensures value { result ≡ end_line words.old }
-    ensures kept { (rules : ℕ) → IfSome result (IsKeptLine rules) }
 {
-    let count = long_in(words)?;
+    let count = parse_decimal(words.next()?)?;
     end(words)?;
     Some(Line::End(count))
 }
@@ -320,7 +307,6 @@ fn end_line(words: &mut Parts) -> Option<Line>
 /// The lines that hold no name.
 pub(crate) fn plain_line(rules: u8, verb: &[u8], words: &mut Parts) -> Option<Line>
     ensures value { result ≡ plain_line rules verb.now words.old }
-    ensures kept { IfSome result (IsKeptLine rules) }
 {
     if is(verb, b"e") {
         Some(Line::Entry(entry_of(rules, words)?))
