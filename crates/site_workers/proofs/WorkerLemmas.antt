@@ -40,11 +40,6 @@ pub wider_refused : {T : Type 0} (r : Result T PropsError) (P Q : LineRefusal �
 wider_refused (Ok x) P Q h f = tt
 wider_refused (Err e) P Q h f = wider_refusal P Q e h f
 
--- want of memory is a refusal of any kind
-pub wants_memory : {T : Type 0} (r : Result T PropsError) (P : LineRefusal → Type 0) → IfErr r (λ e. e ≡ errors.NoMemory) → IfErr r (IsRefusal P)
-wants_memory (Ok x) P h = tt
-wants_memory (Err e) P h = subst (IsRefusal P) (sym h) tt
-
 -- the least common multiple of one factor
 pub one_factor : (f : ℕ) → multiple_of (f ∷ []) ≡ f
 one_factor f =

@@ -16,7 +16,7 @@ use crate::member::sharing;
 use crate::members::{Members, members_of};
 use crate::row::{Row, picked};
 use crate::settings::{filled_or, method, number_or, text, truth_or};
-use jk_io::{Bytes, ListOf};
+use jk_io::{Bytes, ListOf, NoMemory};
 use lb_model::{ConfigError, LbConfig, MemberList, Method};
 use site_config::{Directive, Endpoint, Lb, PropertyLine, PropsError, PropsReason, refused};
 use std::alloc::Global;
@@ -39,11 +39,10 @@ struct LbTexts {
     path: Bytes,
 }
 
-fn texts_of(alloc: Global, name: &[u8], cookie: &[u8], path: &[u8]) -> Result<LbTexts, PropsError>
+fn texts_of(alloc: Global, name: &[u8], cookie: &[u8], path: &[u8]) -> Result<LbTexts, NoMemory>
     ensures name { IfOk result (λ t. t.name ≡ name.now) }
     ensures cookie { IfOk result (λ t. t.cookie ≡ cookie.now) }
     ensures path { IfOk result (λ t. t.path ≡ path.now) }
-    ensures memory { IfErr result (λ e. e ≡ PropsError.NoMemory) }
 {
     Ok(LbTexts {
         name: Bytes::from_slice(alloc, name)?,
@@ -60,12 +59,11 @@ fn made_of(
     path: &[u8],
     book: LbConfig,
     ends: Vec<Endpoint>,
-) -> Result<Lb, PropsError>
+) -> Result<Lb, NoMemory>
     requires paired { length ends.items ≡ length book.members }
     requires cookie { 0 < length cookie.now }
     requires path { 0 < length path.now }
-    ensures made { IfOk result (HasParts name.now cookie.now path.now book ends.items) }
-    ensures memory { IfErr result (λ e. e ≡ PropsError.NoMemory) }
+    ensures { IfOk result (HasParts name.now cookie.now path.now book ends.items) }
 {
     let texts = texts_of(alloc, name, cookie, path)?;
     Ok(Lb {
@@ -103,14 +101,14 @@ pub(crate) fn direct<'t>(
         60,
         configs,
     ) {
-        Ok(book) => made_of(
+        Ok(book) => Ok(made_of(
             alloc,
             listing.name,
             b"JSESSIONID",
             b";jsessionid",
             book,
             members.ends,
-        ),
+        )?),
         Err(_) => unreachable!(),
     }
 }
@@ -156,7 +154,7 @@ fn lb_with<'t>(
     let cookie = filled_or(given.entries, row, Directive::Cookie, cookie_name);
     let path = filled_or(given.entries, row, Directive::Path, path_name);
     match book_of(given, row, ListOf::from_vec(made.configs)) {
-        Ok(book) => made_of(alloc, name, cookie, path, book, ends),
+        Ok(book) => Ok(made_of(alloc, name, cookie, path, book, ends)?),
         Err(_) => Err(refused(type_line(given.entries, row), PropsReason::TooWide)),
     }
 }

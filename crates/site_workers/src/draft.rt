@@ -1,9 +1,9 @@
 //! A configuration that is being made.
-ghost use Rattle.std.specs.Prelude.{◌≡◌, OnOk, IfErr};
+ghost use Rattle.std.specs.Prelude.{◌≡◌, OnOk};
 ghost use Rattle.site_workers.specs.Site.{no_workers, with_lb, with_status};
 
-use jk_io::{Bytes, ListOf};
-use site_config::{Lb, LbList, Named, NamedList, PropsError, Status, StatusList};
+use jk_io::{Bytes, ListOf, NoMemory};
+use site_config::{Lb, LbList, Named, NamedList, Status, StatusList};
 use std::alloc::Global;
 
 /// The balancers, the status workers and the listed names so far. Places that a u32 can't hold count as want of memory.
@@ -26,12 +26,11 @@ impl Draft {
     }
 
     /// Adds a balancer under its name.
-    pub(crate) fn add_lb(&mut self, name: Bytes, lb: Lb) -> Result<(), PropsError>
-        ensures ok { OnOk result (self.new ≡ with_lb self.old name lb) }
-        ensures memory { IfErr result (λ e. e ≡ PropsError.NoMemory) }
+    pub(crate) fn add_lb(&mut self, name: Bytes, lb: Lb) -> Result<(), NoMemory>
+        ensures { OnOk result (self.new ≡ with_lb self.old name lb) }
     {
         let Ok(place) = u32::try_from(self.lbs.len()) else {
-            return Err(PropsError::NoMemory);
+            return Err(NoMemory);
         };
         self.lbs.push(lb)?;
         self.listed.push((name, Named::Balancer(place)))?;
@@ -39,12 +38,11 @@ impl Draft {
     }
 
     /// Adds a status worker under its name.
-    pub(crate) fn add_status(&mut self, name: Bytes, status: Status) -> Result<(), PropsError>
-        ensures ok { OnOk result (self.new ≡ with_status self.old name status) }
-        ensures memory { IfErr result (λ e. e ≡ PropsError.NoMemory) }
+    pub(crate) fn add_status(&mut self, name: Bytes, status: Status) -> Result<(), NoMemory>
+        ensures { OnOk result (self.new ≡ with_status self.old name status) }
     {
         let Ok(place) = u32::try_from(self.statuses.len()) else {
-            return Err(PropsError::NoMemory);
+            return Err(NoMemory);
         };
         self.statuses.push(status)?;
         self.listed.push((name, Named::Status(place)))?;

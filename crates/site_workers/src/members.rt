@@ -16,6 +16,7 @@ use crate::member::{endpoint_of, member_of};
 use crate::row::Row;
 use crate::settings::text_or;
 use crate::site::{check_ajp13, check_known, check_reference, force_of};
+use jk_io::NoMemory;
 use lb_model::MemberConfig;
 use site_config::{Directive, Endpoint, PropertyLine, PropsError};
 use std::alloc::Global;
@@ -102,11 +103,10 @@ fn routes_of<'t>(
     entries: &[PropertyLine<'t>],
     rows: &[Row],
     members: &[Listing<'t>],
-) -> Result<Vec<&'t [u8]>, PropsError>
+) -> Result<Vec<&'t [u8]>, NoMemory>
     requires { length rows.now ≡ length members.now }
-    ensures routes { IfOk result (λ v. map (λ r. r.now) v.items
+    ensures { IfOk result (λ v. map (λ r. r.now) v.items
         ≡ routes_at (as_properties entries.now) (as_listings members.now) rows.now) }
-    ensures memory { IfErr result (λ e. e ≡ PropsError.NoMemory) }
 {
     let mut out = Vec::new(alloc);
     for (i, listing) in members.iter().enumerate() {
@@ -129,12 +129,11 @@ fn built<'t>(
     rows: &[Row],
     members: &[Listing<'t>],
     routes: &[&[u8]],
-) -> Result<Members, PropsError>
+) -> Result<Members, NoMemory>
     requires rows { length rows.now ≡ length members.now }
     requires routes { length routes.now < MAX_MEMBERS + 1 }
-    ensures built { IfOk result (λ b. AreBuilt (as_properties entries.now) (map (λ r. r.now) routes.now) 0
+    ensures { IfOk result (λ b. AreBuilt (as_properties entries.now) (map (λ r. r.now) routes.now) 0
         (as_listings members.now) rows.now b.configs.items b.ends.items) }
-    ensures memory { IfErr result (λ e. e ≡ PropsError.NoMemory) }
 {
     let mut configs = Vec::new(alloc);
     let mut ends = Vec::new(alloc);
@@ -170,5 +169,5 @@ pub(crate) fn members_of<'t>(
     let own = rows_in_force.as_slice();
     let routes_in_force = routes_of(alloc, given.entries, own, members)?;
     let routes = routes_in_force.as_slice();
-    built(alloc, given.entries, own, members, routes)
+    Ok(built(alloc, given.entries, own, members, routes)?)
 }

@@ -24,7 +24,7 @@ use crate::site::{check_known, force_of};
 use crate::table::{names_of, rows_of};
 use crate::told::{Told, told_lines};
 use crate::whole::maintain_of;
-use jk_io::Bytes;
+use jk_io::{Bytes, NoMemory};
 use lb_model::MAX_BALANCERS;
 use site_config::{
     Config, Directive, IgnoredList, Lb, PropertyLine, PropsError, PropsReason, Status, WorkerKind,
@@ -33,9 +33,8 @@ use site_config::{
 use std::alloc::Global;
 
 /// AddsListing a balancer under a copy of its name.
-fn put_lb(alloc: Global, draft: &mut Draft, name: &[u8], lb: Lb) -> Result<(), PropsError>
-    ensures ok { OnOk result (draft.new ≡ with_lb draft.old name.now lb) }
-    ensures memory { IfErr result (λ e. e ≡ PropsError.NoMemory) }
+fn put_lb(alloc: Global, draft: &mut Draft, name: &[u8], lb: Lb) -> Result<(), NoMemory>
+    ensures { OnOk result (draft.new ≡ with_lb draft.old name.now lb) }
 {
     draft.add_lb(Bytes::from_slice(alloc, name)?, lb)
 }
@@ -82,7 +81,8 @@ fn add_lb<'t>(
     let members = members_in(given, row);
     check_members(alloc, given, rows, draft.lbs.len(), listing, members)?;
     let lb = balanced(alloc, given, rows, row, listing, members)?;
-    put_lb(alloc, draft, listing.name, lb)
+    put_lb(alloc, draft, listing.name, lb)?;
+    Ok(())
 }
 
 /// AddsListing an ajp13 worker that is listed itself.
@@ -107,7 +107,8 @@ fn add_direct<'t>(
         return Err(refused(listing.line, PropsReason::BadValue));
     }
     let lb = direct(alloc, given, rows, listing)?;
-    put_lb(alloc, draft, listing.name, lb)
+    put_lb(alloc, draft, listing.name, lb)?;
+    Ok(())
 }
 
 /// AddsListing a status worker.
@@ -117,10 +118,9 @@ fn add_status(
     draft: &mut Draft,
     row: &Row,
     listing: &Listing<'_>,
-) -> Result<(), PropsError>
-    ensures ok { OnOk result (AddsKind (lines_in given.now) given.now.maintain (as_listing listing.now)
+) -> Result<(), NoMemory>
+    ensures { OnOk result (AddsKind (lines_in given.now) given.now.maintain (as_listing listing.now)
         (property_at (lines_in given.now) row.now) WorkerKind.Status draft.old draft.new) }
-    ensures memory { IfErr result (λ e. e ≡ PropsError.NoMemory) }
 {
     let read_only = truth_or(given.entries, row, Directive::ReadOnly, false);
     let status = Status {
@@ -149,7 +149,7 @@ fn add_worker<'t>(
     match kind(given.entries, &row) {
         WorkerKind::Ajp13 => add_direct(alloc, given, rows, draft, &row, listing),
         WorkerKind::Lb => add_lb(alloc, given, rows, draft, &row, listing),
-        WorkerKind::Status => add_status(alloc, given, draft, &row, listing),
+        WorkerKind::Status => Ok(add_status(alloc, given, draft, &row, listing)?),
     }
 }
 

@@ -8,7 +8,7 @@ use Rattle.site_workers.specs.Listings.{as_listing, as_listings}
 use Rattle.site_workers.specs.Rows.{property_at}
 use Rattle.site_workers.specs.Site.{RefusesBook, RefusesLb, line_in}
 use Rattle.site_workers.proofs.LbLemmas.{members_refused, passed_added, passed_refused}
-use Rattle.site_workers.proofs.WorkerLemmas.{ok_anyway, on_ok, wants_memory, wider_refusal}
+use Rattle.site_workers.proofs.WorkerLemmas.{wider_refusal}
 use Rattle.site_workers.proofs.workers.add_lb.Goals as goal
 
 pub balanced-requires : goal.balanced-requires
@@ -44,17 +44,11 @@ returns-in_err-lb-clause-refused c =
     rw (p.1, p.2) (wider_refusal (RefusesBook ps (line_in (v directive.Kind)) ms) (RefusesLb ps count l v all) _ c.in_err-lb.ensures.refused (passed_refused ps count l v ms all are pass))
 
 pub returns-clause-rows : goal.returns-clause-rows
-returns-clause-rows c = ok_anyway c.put_lb.result _ c.in_ok-lb.ensures.rows
+returns-clause-rows c = c.in_ok-lb.ensures.rows
 
 pub returns-clause-ok : goal.returns-clause-ok
 returns-clause-ok c =
     let ps = as_properties c.args.given.now.entries.now in
     let ms = as_listings c.members_in-members.result.now in
     let pass : Pass ps (length c.args.draft.now.lbs) ms = rw c.len.ensures at c.in_ok-check_members.ensures.pass in
-    on_ok c.put_lb.result _ _ c.put_lb.ensures.ok (passed_added ps c.args.given.now.maintain (as_listing c.args.listing.now) (property_at ps c.args.row.now) ms c.args.draft.now _ c.in_ok-lb.lb c.members_in-members.ensures pass c.in_ok-lb.ensures.lb)
-
-pub returns-clause-refused : goal.returns-clause-refused
-returns-clause-refused c =
-    let ps = as_properties c.args.given.now.entries.now in
-    let v = property_at ps c.args.row.now in
-    wants_memory c.put_lb.result (RefusesLb ps (length c.args.draft.now.lbs) (as_listing c.args.listing.now) v (members_in ps (v directive.BalanceWorkers))) c.put_lb.ensures.memory
+    passed_added ps c.args.given.now.maintain (as_listing c.args.listing.now) (property_at ps c.args.row.now) ms c.args.draft.now _ c.in_ok-lb.lb c.members_in-members.ensures pass c.in_ok-lb.ensures.lb c.in_ok-put_lb.ensures

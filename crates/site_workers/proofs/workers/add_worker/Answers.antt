@@ -6,7 +6,7 @@ use Rattle.site_workers.specs.Listings.{as_listing}
 use Rattle.site_workers.specs.Rows.{property_at}
 use Rattle.site_workers.specs.Site.{AddsKind, RefusesListing, RefusesKind}
 use Rattle.site_workers.proofs.CheckLemmas.{refuses_kind}
-use Rattle.site_workers.proofs.WorkerLemmas.{adds_kind, ok_anyway, on_ok, wants_memory, wider_refused}
+use Rattle.site_workers.proofs.WorkerLemmas.{adds_kind, on_ok, wider_refused}
 use Rattle.site_workers.proofs.workers.add_worker.Goals as goal
 
 pub returns-in-Ajp13-clause-ok : goal.returns-in-Ajp13-clause-ok
@@ -25,13 +25,12 @@ returns-in-Lb-clause-ok c =
     on_ok c.add_lb.result _ _ c.add_lb.ensures.ok (λ added.
     adds_kind ps c.args.given.now.maintain l row c.args.draft.now c.add_lb.new.draft c.in_ok-check_known.ensures.ok c.in_ok-row.ensures.force (subst (λ (k : WorkerKind). AddsKind ps c.args.given.now.maintain l (property_at ps row) k c.args.draft.now c.add_lb.new.draft) c.in-Lb.ensures added))
 
-pub returns-in-Status-clause-ok : goal.returns-in-Status-clause-ok
-returns-in-Status-clause-ok c =
+pub returns-in_ok-add_status-in-Status-clause-ok : goal.returns-in_ok-add_status-in-Status-clause-ok
+returns-in_ok-add_status-in-Status-clause-ok c =
     let ps = as_properties c.args.given.now.entries.now in
     let l = as_listing c.args.listing.now in
     let row = c.in_ok-row.row in
-    on_ok c.add_status.result _ _ c.add_status.ensures.ok (λ added.
-    adds_kind ps c.args.given.now.maintain l row c.args.draft.now c.add_status.new.draft c.in_ok-check_known.ensures.ok c.in_ok-row.ensures.force (subst (λ (k : WorkerKind). AddsKind ps c.args.given.now.maintain l (property_at ps row) k c.args.draft.now c.add_status.new.draft) c.in-Status.ensures added))
+    adds_kind ps c.args.given.now.maintain l row c.args.draft.now c.add_status.new.draft c.in_ok-check_known.ensures.ok c.in_ok-row.ensures.force (subst (λ (k : WorkerKind). AddsKind ps c.args.given.now.maintain l (property_at ps row) k c.args.draft.now c.add_status.new.draft) c.in-Status.ensures c.in_ok-add_status-in-Status.ensures)
 
 pub returns-in-Ajp13-clause-refused : goal.returns-in-Ajp13-clause-refused
 returns-in-Ajp13-clause-refused c =
@@ -50,11 +49,3 @@ returns-in-Lb-clause-refused c =
     let count = length c.args.draft.now.lbs in
     wider_refused c.add_lb.result (RefusesKind ps count l (property_at ps row) kind.Lb) (RefusesListing ps count l) c.add_lb.ensures.refused (λ r refused.
     refuses_kind ps count l row r c.in_ok-check_known.ensures.ok c.in_ok-row.ensures.force (subst (λ (k : WorkerKind). RefusesKind ps count l (property_at ps row) k r) c.in-Lb.ensures refused))
-
-pub returns-in-Status-clause-refused : goal.returns-in-Status-clause-refused
-returns-in-Status-clause-refused c =
-    let ps = as_properties c.args.given.now.entries.now in
-    wants_memory c.add_status.result (RefusesListing ps (length c.args.draft.now.lbs) (as_listing c.args.listing.now)) c.add_status.ensures.memory
-
-pub returns-in-Status-clause-rows : goal.returns-in-Status-clause-rows
-returns-in-Status-clause-rows c = ok_anyway c.add_status.result _ c.in_ok-row.ensures.rows
