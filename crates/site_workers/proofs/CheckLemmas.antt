@@ -13,13 +13,18 @@ use Rattle.site_workers.specs.Lists.{Listing}
 use Rattle.site_workers.specs.Listings.{as_listing, as_listings}
 use Rattle.site_workers.specs.Rows.{HasForce, property_at}
 use Rattle.site_workers.specs.Settings.{kind_in}
-use Rattle.site_workers.specs.Site.{Each, FirstBad, Known, RefusesListing, RefusesKind}
+use Rattle.site_workers.specs.Site.{Chained, Each, FirstBad, IsTraced, Known, RefusesListing, RefusesKind}
 use Rattle.site_workers.proofs.WorkerLemmas.{force_lines, wider_refusal}
 
 pub each_at : (fine : Listing → Type 0) (ls : List declared.Listing) (i : ℕ) (d : declared.Listing) → i < length ls → Each fine (as_listings ls) → fine (as_listing (get_or ls i d))
 each_at fine [] i d h e = absurd (omega arith)
 each_at fine (l ∷ ls) zero d h e = e.0
 each_at fine (l ∷ ls) (suc i) d h e = each_at fine ls i d (omega arith) e.1
+
+-- each has a directive, and each one's references lead on
+pub each_traced : (ps : List Property) (ls : List Listing) → Each (Known ps) ls → Each (Chained ps) ls → Each (IsTraced ps) ls
+each_traced ps [] known chained = tt
+each_traced ps (l ∷ ls) known chained = (record { known = known.0; chained = chained.0 }, each_traced ps ls known.1 chained.1)
 
 -- what is left begins with the worker at this place
 rest_at : (ls : List declared.Listing) (i : ℕ) (d : declared.Listing) → i < length ls → as_listings (drop i ls) ≡ as_listing (get_or ls i d) ∷ as_listings (drop (i + 1) ls)

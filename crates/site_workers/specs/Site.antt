@@ -99,6 +99,11 @@ Chained ps l = HasChain ps l.name
 abbrev pub Known : List Property → Listing → Type 0
 Known ps l = is_given ps l.name ≡ true
 
+-- a listed worker has a directive, and its references lead on
+pub record IsTraced (ps : List Property) (l : Listing) : Type 0 where
+  pub known : Known ps l
+  pub chained : Chained ps l
+
 abbrev pub IsAjp13 : List Property → Listing → Type 0
 IsAjp13 ps l = HasKind ps l.name kind.Ajp13
 

@@ -6,7 +6,7 @@ ghost use Rattle.site_workers.specs.Books.{AreBookable, AreTooWide, IsBook, IsLb
 ghost use Rattle.site_workers.specs.Listings.{as_listing, as_listings};
 ghost use Rattle.site_config.specs.Refusals.{IsRefusal};
 ghost use Rattle.site_workers.specs.Rows.{property_at};
-ghost use Rattle.site_workers.specs.Site.{Each, IsDirect, IsLb, Known, Chained, RefusesBook, line_in};
+ghost use Rattle.site_workers.specs.Site.{Each, IsDirect, IsLb, IsTraced, RefusesBook, line_in};
 ghost use Rattle.site_workers.specs.Tables.{AreAtRest, lines_in};
 ghost use Rattle.lb_model.specs.declared.config.TheConstants.{MAX_MEMBERS};
 
@@ -83,8 +83,7 @@ pub(crate) fn direct<'t>(
     listing: &Listing<'t>,
 ) -> Result<Lb, PropsError>
     requires rows { AreAtRest given.now rows.old.items }
-    requires given { Known (lines_in given.now) (as_listing listing.now) }
-    requires chained { Chained (lines_in given.now) (as_listing listing.now) }
+    requires traced { IsTraced (lines_in given.now) (as_listing listing.now) }
     ensures rows { OnOk result (AreAtRest given.now rows.new.items) }
     ensures lb { IfOk result (IsDirect (lines_in given.now) given.now.maintain (as_listing listing.now)) }
     ensures memory { IfErr result (λ e. e ≡ PropsError.NoMemory) }
@@ -169,8 +168,7 @@ fn lb_of<'t>(
     members: &[Listing<'t>],
 ) -> Result<Lb, PropsError>
     requires rows { AreAtRest given.now rows.old.items }
-    requires given { Each (Known (lines_in given.now)) (as_listings members.now) }
-    requires chained { Each (Chained (lines_in given.now)) (as_listings members.now) }
+    requires traced { Each (IsTraced (lines_in given.now)) (as_listings members.now) }
     requires some { 1 ≤ length members.now }
     requires few { length members.now ≤ MAX_MEMBERS }
     ensures rows { OnOk result (AreAtRest given.now rows.new.items) }
@@ -193,8 +191,7 @@ pub(crate) fn balanced<'t>(
     members: &[Listing<'t>],
 ) -> Result<Lb, PropsError>
     requires rows { AreAtRest given.now rows.old.items }
-    requires given { Each (Known (lines_in given.now)) (as_listings members.now) }
-    requires chained { Each (Chained (lines_in given.now)) (as_listings members.now) }
+    requires traced { Each (IsTraced (lines_in given.now)) (as_listings members.now) }
     ensures rows { OnOk result (AreAtRest given.now rows.new.items) }
     ensures lb { IfOk result (IsLb (lines_in given.now) (property_at (lines_in given.now) row.now)
         given.now.maintain listing.now.name.now (as_listings members.now)) }

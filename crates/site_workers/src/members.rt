@@ -6,7 +6,7 @@ ghost use Rattle.site_workers.specs.Built.{HaveForce, AreBuilt, routes_at};
 ghost use Rattle.site_config.specs.Entries.{as_properties};
 ghost use Rattle.site_workers.specs.Listings.{as_listing, as_listings};
 ghost use Rattle.site_config.specs.Refusals.{IsRefusal};
-ghost use Rattle.site_workers.specs.Site.{AreMembers, Breaks, Chained, Each, FirstBad, IsAjp13, IsNoAjp13, IsUnknown, Known, routes_of};
+ghost use Rattle.site_workers.specs.Site.{AreMembers, Breaks, Chained, Each, FirstBad, IsAjp13, IsNoAjp13, IsUnknown, Known, IsTraced, routes_of};
 ghost use Rattle.site_workers.specs.Tables.{AreAtRest, lines_in};
 ghost use Rattle.lb_model.specs.declared.config.TheConstants.{MAX_MEMBERS};
 
@@ -63,8 +63,7 @@ pub(crate) fn check_types<'t>(
     members: &[Listing<'t>],
 ) -> Result<(), PropsError>
     requires rows { AreAtRest given.now rows.old.items }
-    requires given { Each (Known (lines_in given.now)) (as_listings members.now) }
-    requires chained { Each (Chained (lines_in given.now)) (as_listings members.now) }
+    requires traced { Each (IsTraced (lines_in given.now)) (as_listings members.now) }
     ensures rows { OnOk result (AreAtRest given.now rows.new.items) }
     ensures ok { OnOk result (Each (IsAjp13 (lines_in given.now)) (as_listings members.now)) }
     ensures other { IfErr result (IsRefusal (FirstBad (IsAjp13 (lines_in given.now))
@@ -84,8 +83,7 @@ fn rows_of<'t>(
     members: &[Listing<'t>],
 ) -> Result<Vec<Row>, PropsError>
     requires rows { AreAtRest given.now rows.old.items }
-    requires given { Each (Known (lines_in given.now)) (as_listings members.now) }
-    requires chained { Each (Chained (lines_in given.now)) (as_listings members.now) }
+    requires traced { Each (IsTraced (lines_in given.now)) (as_listings members.now) }
     ensures rows { OnOk result (AreAtRest given.now rows.new.items) }
     ensures force { IfOk result (λ v. HaveForce (lines_in given.now) (as_listings members.now) v.items) }
     ensures memory { IfErr result (λ e. e ≡ PropsError.NoMemory) }
@@ -155,8 +153,7 @@ pub(crate) fn members_of<'t>(
     members: &[Listing<'t>],
 ) -> Result<Members, PropsError>
     requires rows { AreAtRest given.now rows.old.items }
-    requires given { Each (Known (lines_in given.now)) (as_listings members.now) }
-    requires chained { Each (Chained (lines_in given.now)) (as_listings members.now) }
+    requires traced { Each (IsTraced (lines_in given.now)) (as_listings members.now) }
     requires few { length members.now ≤ MAX_MEMBERS }
     ensures rows { OnOk result (AreAtRest given.now rows.new.items) }
     ensures members { IfOk result (λ b. AreMembers (lines_in given.now) (routes_of b.configs.items) 0

@@ -6,7 +6,7 @@ ghost use Rattle.site_workers.specs.Listings.{as_listing, as_listings};
 ghost use Rattle.site_workers.specs.Numbers.{number_of};
 ghost use Rattle.site_config.specs.Refusals.{IsRefusal};
 ghost use Rattle.site_workers.specs.Rows.{HasForce};
-ghost use Rattle.site_workers.specs.Site.{Breaks, Chained, Each, FirstBad, IsAjp13, IsNoAjp13, IsUnknown, Known};
+ghost use Rattle.site_workers.specs.Site.{Breaks, Chained, Each, FirstBad, IsAjp13, IsNoAjp13, IsUnknown, Known, IsTraced};
 ghost use Rattle.site_workers.specs.Tables.{AreAtRest, lines_in};
 ghost use Rattle.site_workers.specs.Ways.{IsBrokenWalk, IsSettled};
 
@@ -85,8 +85,7 @@ pub(crate) fn check_ajp13<'t>(
     listing: &Listing<'t>,
 ) -> Result<(), PropsError>
     requires rows { AreAtRest given.now rows.old.items }
-    requires given { Known (lines_in given.now) (as_listing listing.now) }
-    requires chained { Chained (lines_in given.now) (as_listing listing.now) }
+    requires traced { IsTraced (lines_in given.now) (as_listing listing.now) }
     ensures rows { OnOk result (AreAtRest given.now rows.new.items) }
     ensures ok { OnOk result (IsAjp13 (lines_in given.now) (as_listing listing.now)) }
     ensures other { IfErr result (IsRefusal (IsNoAjp13 (lines_in given.now) (as_listing listing.now))) }

@@ -9,7 +9,7 @@ ghost use Rattle.site_workers.specs.Lists.{firsts, site_list};
 ghost use Rattle.site_config.specs.Refusals.{IsRefusal};
 ghost use Rattle.site_workers.specs.Rows.{HasForce, property_at};
 ghost use Rattle.site_workers.specs.Settings.{kind_in};
-ghost use Rattle.site_workers.specs.Site.{AddsListing, AddsKind, Builds, IsConfig, IsRefusedText, Known, Chained, RefusesListing, RefusesKind, StopsAtListing, draft_of, maintain_of, no_workers, with_lb};
+ghost use Rattle.site_workers.specs.Site.{AddsListing, AddsKind, Builds, IsConfig, IsRefusedText, IsTraced, RefusesListing, RefusesKind, StopsAtListing, draft_of, maintain_of, no_workers, with_lb};
 ghost use Rattle.site_workers.specs.Tables.{AreAtRest, lines_in};
 
 use crate::books::{balanced, direct};
@@ -95,8 +95,7 @@ fn add_direct<'t>(
     listing: &Listing<'t>,
 ) -> Result<(), PropsError>
     requires rows { AreAtRest given.now rows.old.items }
-    requires given { Known (lines_in given.now) (as_listing listing.now) }
-    requires chained { Chained (lines_in given.now) (as_listing listing.now) }
+    requires traced { IsTraced (lines_in given.now) (as_listing listing.now) }
     ensures rows { OnOk result (AreAtRest given.now rows.new.items) }
     ensures ok { OnOk result (AddsKind (lines_in given.now) given.now.maintain (as_listing listing.now)
         (property_at (lines_in given.now) row.now) WorkerKind.Ajp13 draft.old draft.new) }

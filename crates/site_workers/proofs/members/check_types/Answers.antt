@@ -2,7 +2,7 @@ use Rattle.std.proofs.Common.{arith}
 use Rattle.std.proofs.lemmas.Result.{err_from_is_err_and}
 use Rattle.site_config.specs.Entries.{as_properties}
 use Rattle.site_workers.specs.Listings.{as_listings}
-use Rattle.site_workers.specs.Site.{Chained, IsAjp13, IsNoAjp13, Known}
+use Rattle.site_workers.specs.Site.{IsAjp13, IsNoAjp13, IsTraced}
 use Rattle.site_workers.proofs.CheckLemmas.{checked_ends, checked_more, checked_starts, checked_stops, each_at}
 use Rattle.site_workers.proofs.members.check_types.Goals as goal
 
@@ -30,8 +30,5 @@ returns-clause-ok c =
     let ps = as_properties c.args.given.now.entries.now in
     checked_ends (IsAjp13 ps) (IsNoAjp13 ps) c.args.members.now c.loop-listing.listing-index c.loop-listing-test.false c.loop-listing.invariant.checked
 
-pub check_ajp13-requires-clause-given : goal.check_ajp13-requires-clause-given
-check_ajp13-requires-clause-given c = each_at (Known (as_properties c.args.given.now.entries.now)) c.args.members.now c.loop-listing.listing-index _ (omega arith) c.requires.given
-
-pub check_ajp13-requires-clause-chained : goal.check_ajp13-requires-clause-chained
-check_ajp13-requires-clause-chained c = each_at (Chained (as_properties c.args.given.now.entries.now)) c.args.members.now c.loop-listing.listing-index _ (omega arith) c.requires.chained
+pub check_ajp13-requires-clause-traced : goal.check_ajp13-requires-clause-traced
+check_ajp13-requires-clause-traced c = each_at (IsTraced (as_properties c.args.given.now.entries.now)) c.args.members.now c.loop-listing.listing-index _ (omega arith) c.requires.traced

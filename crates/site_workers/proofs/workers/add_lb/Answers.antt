@@ -7,6 +7,7 @@ use Rattle.site_workers.specs.Lists.{firsts, members_in}
 use Rattle.site_workers.specs.Listings.{as_listing, as_listings}
 use Rattle.site_workers.specs.Rows.{property_at}
 use Rattle.site_workers.specs.Site.{RefusesBook, RefusesLb, line_in}
+use Rattle.site_workers.proofs.CheckLemmas.{each_traced}
 use Rattle.site_workers.proofs.LbLemmas.{members_refused, passed_added, passed_refused}
 use Rattle.site_workers.proofs.WorkerLemmas.{wider_refusal}
 use Rattle.site_workers.proofs.workers.add_lb.Goals as goal
@@ -14,8 +15,7 @@ use Rattle.site_workers.proofs.workers.add_lb.Goals as goal
 pub balanced-requires : goal.balanced-requires
 balanced-requires c = record {
   rows = c.in_ok-check_members.ensures.rows;
-  given = c.in_ok-check_members.ensures.pass.known;
-  chained = c.in_ok-check_members.ensures.pass.chained;
+  traced = each_traced _ _ c.in_ok-check_members.ensures.pass.known c.in_ok-check_members.ensures.pass.chained;
 }
 
 pub returns-in_err-check_members-clause-refused : goal.returns-in_err-check_members-clause-refused

@@ -49,3 +49,9 @@ returns-in-Lb-clause-refused c =
     let count = length c.args.draft.now.lbs in
     wider_refused c.add_lb.result (RefusesKind ps count l (property_at ps row) kind.Lb) (RefusesListing ps count l) c.add_lb.ensures.refused (λ r refused.
     refuses_kind ps count l row r c.in_ok-check_known.ensures.ok c.in_ok-row.ensures.force (subst (λ (k : WorkerKind). RefusesKind ps count l (property_at ps row) k r) c.in-Lb.ensures refused))
+
+pub add_direct-requires-clause-traced : goal.add_direct-requires-clause-traced
+add_direct-requires-clause-traced c = record {
+  known = c.in_ok-check_known.ensures.ok;
+  chained = (c.in_ok-row.ensures.force.0, c.in_ok-row.ensures.force.1);
+}

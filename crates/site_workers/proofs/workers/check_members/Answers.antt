@@ -4,6 +4,7 @@ use Rattle.site_config.specs.Entries.{as_properties}
 use Rattle.site_workers.specs.Books.{RefusesMembers}
 use Rattle.site_workers.specs.Listings.{as_listing, as_listings}
 use Rattle.site_workers.specs.Site.{Breaks, Chained, FirstBad, IsAjp13, IsNoAjp13, IsUnknown, Known}
+use Rattle.site_workers.proofs.CheckLemmas.{each_traced}
 use Rattle.site_workers.proofs.WorkerLemmas.{on_ok, wider_refusal, wider_refused}
 use Rattle.site_workers.proofs.workers.check_members.Goals as goal
 
@@ -46,3 +47,7 @@ returns-clause-refused c =
     let room : c.args.count < 1024 = c.if-count-ge-MAX_BALANCERS.false in
     wider_refused c.check_types.result (FirstBad (IsAjp13 ps) (IsNoAjp13 ps) ms) (RefusesMembers ps c.args.count (as_listing c.args.listing.now) ms) c.check_types.ensures.other
     (λ r h. inr (inr (inr (c.in_ok-check_references.ensures.ok, c.in_ok-check_members_known.ensures.ok, room, h))))
+
+pub check_types-requires-clause-traced : goal.check_types-requires-clause-traced
+check_types-requires-clause-traced c =
+    each_traced (as_properties c.args.given.now.entries.now) (as_listings c.args.members.now) c.in_ok-check_members_known.ensures.ok c.in_ok-check_references.ensures.ok
