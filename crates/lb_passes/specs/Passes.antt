@@ -30,3 +30,8 @@ pub record IsNewPass (o : Origin) (table : TableId) (given i : ℕ) (p : Pass) :
 pub record AreNewPasses (o : Origin) (table : TableId) (given : ℕ) (passes : List Pass) : Type 0 where
   pub many : length passes ≡ given
   pub each : (i : ℕ) (p : Pass) → get_elem? passes i ≡ some p → IsNewPass o table given i p
+
+-- A pass keeps its place at the table, and its number.
+pub record KeepsSeat (before now : Pass) : Type 0 where
+  pub of : now.seat.table_id ≡ before.seat.table_id
+  pub number : now.number ≡ before.number

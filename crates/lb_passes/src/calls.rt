@@ -6,6 +6,7 @@ ghost use Rattle.lb_model.specs.declared.journal.TheConstants.{MOST_BYTES};
 ghost use Rattle.lb_book.specs.Histories.{has_made};
 ghost use Rattle.lb_passes.specs.Calls.{CallChooses, CallCommands, CallDenies, CallRefuses};
 ghost use Rattle.lb_passes.specs.Holds.{Returns, own_in};
+ghost use Rattle.lb_passes.specs.Passes.{KeepsSeat};
 
 use crate::desk_lists::DeskLists;
 use crate::holds::{Returned, command_in, return_in, select_in};
@@ -27,8 +28,7 @@ pub(crate) fn choose_at<R: Wait>(
 ) -> Result<Choice<PlainLease>, RoomError<FullMark>>
     requires of { pass.old.seat.table_id ≡ book.now.table.shared.table_id }
     requires caller { on.session ≡ pass.old.number }
-    ensures of { pass.new.seat.table_id ≡ pass.old.seat.table_id }
-    ensures number { pass.new.number ≡ pass.old.number }
+    ensures seat { KeepsSeat pass.old pass.new }
     ensures ok { IfOk result (CallChooses pass.old.seat.me.0 pass.new.seat.me.0 lists.old lists.new on ask.now) }
     ensures err { IfErr result (CallDenies pass.old.seat.me.0 pass.new.seat.me.0 lists.old lists.new on) }
 {
@@ -53,8 +53,7 @@ pub(crate) fn return_at<R: Wait>(
     requires still { is_returned back.ticket (own_in pass.old.seat.me.0) ≡ false }
     requires held { holds lists.old.held.items (on.lb, back.ticket) ≡ true }
     requires bytes { back.outcome.bytes ≤ MOST_BYTES }
-    ensures of { pass.new.seat.table_id ≡ pass.old.seat.table_id }
-    ensures number { pass.new.number ≡ pass.old.number }
+    ensures seat { KeepsSeat pass.old pass.new }
     ensures back { Returns pass.old.seat.me.0 pass.new.seat.me.0 lists.old.receipts.items lists.new.receipts.items on back.ticket back.outcome }
     ensures held { lists.new.held.items ≡ filter (λ x. not (is_pair (on.lb, back.ticket) x)) lists.old.held.items }
 {
@@ -73,8 +72,7 @@ pub(crate) fn command_at<R: Wait>(
 ) -> Result<(), AdminError<FullMark>>
     requires of { pass.old.seat.table_id ≡ book.now.table.shared.table_id }
     requires caller { on.session ≡ pass.old.number }
-    ensures of { pass.new.seat.table_id ≡ pass.old.seat.table_id }
-    ensures number { pass.new.number ≡ pass.old.number }
+    ensures seat { KeepsSeat pass.old pass.new }
     ensures ok { OnOk result (CallCommands pass.old.seat.me.0 pass.new.seat.me.0 lists.old lists.new on command.now) }
     ensures err { IfErr result (CallRefuses pass.old.seat.me.0 pass.new.seat.me.0 lists.old lists.new on command.now) }
 {

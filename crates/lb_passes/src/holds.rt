@@ -4,6 +4,7 @@ ghost use Rattle.lb_model.specs.Tickets.{is_returned};
 ghost use Rattle.lb_model.specs.declared.journal.TheConstants.{MOST_BYTES};
 ghost use Rattle.lb_book.specs.Histories.{has_made};
 ghost use Rattle.lb_passes.specs.Holds.{Commands, Denies, Looks, RefusesInTurn, Returns, Selects, own_in};
+ghost use Rattle.lb_passes.specs.Passes.{KeepsSeat};
 
 use crate::pass::Pass;
 use crate::pass_book::PassBook;
@@ -37,8 +38,7 @@ pub(crate) fn select_in<R: Wait>(
     requires of { pass.old.seat.table_id ≡ book.now.table.shared.table_id }
     requires caller { on.session ≡ pass.old.number }
     requires room { vec_len receipts.old + 2 ≤ vec_capacity receipts.old }
-    ensures of { pass.new.seat.table_id ≡ pass.old.seat.table_id }
-    ensures number { pass.new.number ≡ pass.old.number }
+    ensures seat { KeepsSeat pass.old pass.new }
     ensures room { vec_capacity receipts.old ≤ vec_capacity receipts.new }
     ensures ok { IfOk result (Selects pass.old.seat.me.0 pass.new.seat.me.0 receipts.old.items receipts.new.items on ask.now) }
     ensures err { IfErr result (Denies pass.old.seat.me.0 pass.new.seat.me.0 receipts.old.items receipts.new.items on) }
@@ -70,8 +70,7 @@ pub(crate) fn return_in<R: Wait>(
     requires made { has_made back.ticket (own_in pass.old.seat.me.0) ≡ true }
     requires still { is_returned back.ticket (own_in pass.old.seat.me.0) ≡ false }
     requires bytes { back.outcome.bytes ≤ MOST_BYTES }
-    ensures of { pass.new.seat.table_id ≡ pass.old.seat.table_id }
-    ensures number { pass.new.number ≡ pass.old.number }
+    ensures seat { KeepsSeat pass.old pass.new }
     ensures room { vec_capacity receipts.old ≤ vec_capacity receipts.new }
     ensures back { Returns pass.old.seat.me.0 pass.new.seat.me.0 receipts.old.items receipts.new.items on back.ticket back.outcome }
 {
@@ -97,8 +96,7 @@ pub(crate) fn command_in<R: Wait>(
     requires of { pass.old.seat.table_id ≡ book.now.table.shared.table_id }
     requires caller { on.session ≡ pass.old.number }
     requires room { vec_len receipts.old + 2 ≤ vec_capacity receipts.old }
-    ensures of { pass.new.seat.table_id ≡ pass.old.seat.table_id }
-    ensures number { pass.new.number ≡ pass.old.number }
+    ensures seat { KeepsSeat pass.old pass.new }
     ensures room { vec_capacity receipts.old ≤ vec_capacity receipts.new }
     ensures ok { OnOk result (Commands pass.old.seat.me.0 pass.new.seat.me.0 receipts.old.items receipts.new.items on command.now) }
     ensures err { IfErr result (RefusesInTurn pass.old.seat.me.0 pass.new.seat.me.0 receipts.old.items receipts.new.items on command.now) }
@@ -118,8 +116,7 @@ pub(crate) fn command_in<R: Wait>(
 /// The view of the Book.
 pub(crate) fn look_in<R: Wait>(rt: &R, book: &PassBook, pass: &mut Pass) -> Result<View, NoMemory>
     requires of { pass.old.seat.table_id ≡ book.now.table.shared.table_id }
-    ensures of { pass.new.seat.table_id ≡ pass.old.seat.table_id }
-    ensures number { pass.new.number ≡ pass.old.number }
+    ensures seat { KeepsSeat pass.old pass.new }
     ensures looks { Looks pass.old.seat.me.0 pass.new.seat.me.0 result }
 {
     take_turn(rt, book, &mut pass.seat);

@@ -29,7 +29,7 @@ invariant_of-self g c =
     let lt = subst (λ (s : PassDeskState). c.args.lb < length s.desk.sizes) (sym c.self.view_is) c.requires.known in
     let at = at_place c.self.inside.passes.items c.args.lb c.index_mut.result.now lt c.index_mut.ensures.value in
     let done = c.choose_at-done in
-    desk_set _ _ _ _ _ _ c.index_mut.result.now done.new.pass c.self.invariant at done.ensures.of done.ensures.number
+    desk_set _ _ _ _ _ _ c.index_mut.result.now done.new.pass c.self.invariant at done.ensures.seat.of done.ensures.seat.number
     (choose_got c.self.inside.passes.items c.args.lb c.index_mut.result.now done.new.pass at c.self.inside.lists done.new.lists c.args.session c.args.at c.args.ask.now done.result
     done.ensures.ok done.ensures.err c.self.invariant.got)
 
@@ -93,7 +93,7 @@ returns-clause-stay g c =
     let v = view_of c.index_mut.result.now in
     let w = view_of done.new.pass in
     subst (λ (s : PassDeskState). StayPasses s.passes (set d.passes.items c.args.lb done.new.pass)) c.self.view_is
-    (stay_set d.passes.items c.args.lb c.index_mut.result.now done.new.pass at done.ensures.of done.ensures.number
+    (stay_set d.passes.items c.args.lb c.index_mut.result.now done.new.pass at done.ensures.seat.of done.ensures.seat.number
     (choose_origin v w d.lists done.new.lists _ c.args.ask.now done.result done.ensures.ok done.ensures.err)
     (choose_given v w d.lists done.new.lists _ c.args.ask.now done.result done.ensures.ok done.ensures.err))
 

@@ -90,7 +90,7 @@ invariant_of-self g c =
     let lt = within_at d.passes.items c.into_pair-lb.result.0 got.pass got.found in
     let at = at_index d.passes.items c.into_pair-lb.result.0 c.index_mut.result.now lt c.index_mut.ensures.value in
     let e = c.return_at.ensures in
-    desk_set _ _ _ _ _ _ c.index_mut.result.now c.return_at.new.pass c.self.invariant at e.of e.number
+    desk_set _ _ _ _ _ _ c.index_mut.result.now c.return_at.new.pass c.self.invariant at e.seat.of e.seat.number
     (subst (λ (hs : List (ℕ × ℕ)). AreGot (set d.passes.items c.into_pair-lb.result.0 c.return_at.new.pass) hs) (sym e.held)
     (return_got d.passes.items c.into_pair-lb.result.0 c.index_mut.result.now c.return_at.new.pass at d.lists.receipts.items c.return_at.new.lists.receipts.items d.lists.held.items
     c.args.session c.args.at c.into_pair-lb.result.1 c.args.outcome e.back c.self.invariant.got))
@@ -160,5 +160,5 @@ returns-clause-stay g c =
     let e = c.return_at.ensures in
     let turn = e.back.turn in
     subst (λ (s : PassDeskState). StayPasses s.passes (set d.passes.items c.into_pair-lb.result.0 c.return_at.new.pass)) c.self.view_is
-    (stay_set d.passes.items c.into_pair-lb.result.0 c.index_mut.result.now c.return_at.new.pass at e.of e.number
+    (stay_set d.passes.items c.into_pair-lb.result.0 c.index_mut.result.now c.return_at.new.pass at e.seat.of e.seat.number
     (ap (λ (x : PassView). x.origin) turn.after) (ap (λ (x : PassView). x.given) turn.after))

@@ -19,7 +19,7 @@ invariant_of-self g c =
     let lt = subst (λ (s : PassDeskState). c.args.lb < length s.desk.sizes) (sym c.self.view_is) c.requires.known in
     let at = at_place c.self.inside.passes.items c.args.lb c.index_mut.result.now lt c.index_mut.ensures.value in
     let turn = c.look_in.ensures.looks.turn in
-    desk_set _ _ _ _ _ _ c.index_mut.result.now c.look_in.new.pass c.self.invariant at c.look_in.ensures.of c.look_in.ensures.number
+    desk_set _ _ _ _ _ _ c.index_mut.result.now c.look_in.new.pass c.self.invariant at c.look_in.ensures.seat.of c.look_in.ensures.seat.number
     (got_all c.self.inside.passes.items _ _ (λ x got. got_turn _ _ _ _ _ _ x at turn (λ here. refl) got) c.self.invariant.got)
 
 pub returns-clause-shown : goal.returns-clause-shown
@@ -66,5 +66,5 @@ returns-clause-stay g c =
     let d = c.self.inside in
     let turn = c.look_in.ensures.looks.turn in
     subst (λ (s : PassDeskState). StayPasses s.passes (set d.passes.items c.args.lb c.look_in.new.pass)) c.self.view_is
-    (stay_set d.passes.items c.args.lb c.index_mut.result.now c.look_in.new.pass at c.look_in.ensures.of c.look_in.ensures.number
+    (stay_set d.passes.items c.args.lb c.index_mut.result.now c.look_in.new.pass at c.look_in.ensures.seat.of c.look_in.ensures.seat.number
     (ap (λ (x : PassView). x.origin) turn.after) (ap (λ (x : PassView). x.given) turn.after))
