@@ -66,7 +66,6 @@ fn run(
     out: &mut Bytes,
 ) -> Result<Ending, NoMemory>
     requires played { IsPlayed book.old }
-    requires names { length names.now < 2 ^ 32 }
     requires few { first.number + length lines.old < 2 ^ 32 }
     requires entries { length book.old.entries ≤ first.number }
     ensures { IfOk result (λ ending. AppendsRun names.now book.old first.number first.at (line.now ∷ lines.old) (status_of ending)
@@ -101,7 +100,6 @@ fn run_over(
     lines: &mut Parts,
 ) -> Result<Output, NoMemory>
     requires played { IsPlayed book.old }
-    requires names { length (names_in begun.now.draft) < 2 ^ 32 }
     requires few { begun.now.number + length lines.old < 2 ^ 32 }
     requires entries { length book.old.entries ≤ begun.now.number }
     ensures { IfOk result (λ o. AppendsRun (names_in begun.now.draft) book.old begun.now.number begun.now.at (line.now ∷ lines.old)
@@ -126,7 +124,6 @@ fn start_with(
 ) -> Result<Output, NoMemory>
     requires config { IsConfigOf begun.now.draft config }
     requires full { is_none (step_of (names_in begun.now.draft) line.now) ≡ false }
-    requires names { length (names_in begun.now.draft) < 2 ^ 32 }
     requires few { begun.now.number + length lines.old < 2 ^ 32 }
     ensures { IfOk result (λ o. Starts (step_of (names_in begun.now.draft) line.now) begun.now.draft (line.now ∷ lines.old)
         begun.now.number begun.now.at o.text (status_of o.ending)) }
@@ -142,7 +139,6 @@ fn start(
     line: &[u8],
     lines: &mut Parts,
 ) -> Result<Output, NoMemory>
-    requires names { length (names_in begun.now.draft) < 2 ^ 32 }
     requires few { begun.now.number + length lines.old < 2 ^ 32 }
     ensures { IfOk result (λ o. Starts (step_of (names_in begun.now.draft) line.now) begun.now.draft (line.now ∷ lines.old)
         begun.now.number begun.now.at o.text (status_of o.ending)) }

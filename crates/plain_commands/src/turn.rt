@@ -1,5 +1,5 @@
 //! One line of a script, on the Book.
-ghost use Rattle.std.specs.Prelude.{◌≡◌, ◌+◌, ◌<◌, ◌≤◌, ◌^◌, length, IfOk, IfErr, OnOk};
+ghost use Rattle.std.specs.Prelude.{◌≡◌, ◌+◌, ◌<◌, ◌≤◌, length, IfOk, IfErr, OnOk};
 ghost use Rattle.lb_book.specs.Journal.{past_of};
 ghost use Rattle.play_script.specs.Play.{IsAskRefused, IsCommandRefused};
 ghost use Rattle.play_script.specs.Steps.{HasSmallBytes, IsSmall};
@@ -162,7 +162,6 @@ pub(crate) fn take_line(
 ) -> Result<u64, Stop>
     requires played { IsPlayed book.old }
     requires few { length book.old.entries < ENTRIES_LIMIT }
-    requires names { length names.now < 2 ^ 32 }
     ensures ok { IfOk result (λ moment. Taken names.now at line.now moment book.old book.new out.old out.new) }
     ensures refused { IfErr result (λ stop. TellsStop stop (RefusesScriptLine names.now line.now book.old out.old out.new)) }
 {
