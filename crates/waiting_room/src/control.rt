@@ -1,4 +1,5 @@
 //! Who asks a server to stop, over a Unix socket.
+ghost use Rattle.std.specs.Prelude.{◌≡◌, ◌↔◌, [], IsTrue, codes};
 
 use std::io::{Read, Write};
 use std::os::unix::net::{UnixListener, UnixStream};
@@ -54,8 +55,10 @@ impl Askers {
         asks
     }
 
-    /// Tells all who asked that the run ended.
-    pub fn answer(&mut self) {
+    /// Tells all who asked that the run ended, and lets them go.
+    pub fn answer(&mut self)
+        ensures { self.new.streams.items ≡ [] }
+    {
         for stream in &mut self.streams {
             let _ = stream.write_all(ENDED);
         }
@@ -64,12 +67,19 @@ impl Askers {
 }
 
 // Whether the word is the one that asks for a stop.
+fn is_stop(word: &[u8]) -> bool
+    ensures { IsTrue result ↔ (word.now ≡ codes "stop\n") }
+{
+    word == STOP
+}
+
+// Whether the word that comes asks for a stop.
 fn asks_to_stop(stream: &mut UnixStream) -> bool {
     let _ = stream.set_nonblocking(false);
     let _ = stream.set_read_timeout(Some(Duration::from_millis(WORD_MILLIS)));
     let mut buf = [0u8; WORD_BYTES];
     match stream.read(&mut buf) {
-        Ok(n) => buf.get(..n) == Some(STOP),
+        Ok(n) => buf.get(..n).is_some_and(is_stop),
         Err(_) => false,
     }
 }

@@ -1,4 +1,5 @@
 //! Opening a room.
+ghost use Rattle.std.specs.Prelude.{◌≡◌, IfOk, IfSome, is_some};
 
 use crate::control::{Askers, Control};
 use crate::room::{CONTROL, LISTENER, Lead, Room};
@@ -50,7 +51,11 @@ pub fn open_room<R: Net + Files>(
     limits: ClientLimits,
     control: Option<&Bytes>,
     grace: u64,
-) -> Result<Room, OpenRoomError> {
+) -> Result<Room, OpenRoomError>
+    ensures limits { IfOk result (λ room. room.limits ≡ limits) }
+    ensures control { IfOk result (λ room. is_some room.control ≡ is_some control.entry) }
+    ensures grace { IfOk result (λ room. IfSome room.control (λ c. c.grace ≡ grace)) }
+{
     let control = match control {
         Some(path) => Some(control_at(rt, path, grace)?),
         None => None,
@@ -62,7 +67,9 @@ pub fn open_room<R: Net + Files>(
     room_with(rt, alloc, listener, limits, control)
 }
 
-fn control_at<R: Net + Files>(rt: &R, path: &Bytes, grace: u64) -> Result<Control, OpenRoomError> {
+fn control_at<R: Net + Files>(rt: &R, path: &Bytes, grace: u64) -> Result<Control, OpenRoomError>
+    ensures { IfOk result (λ c. c.grace ≡ grace) }
+{
     match bind_control(rt, path) {
         Ok(listener) => Ok(Control { listener, grace }),
         Err(error) => Err(OpenRoomError::Control(error)),
@@ -128,7 +135,10 @@ fn room_with<R: Net>(
     listener: TcpListener,
     limits: ClientLimits,
     control: Option<Control>,
-) -> Result<Room, OpenRoomError> {
+) -> Result<Room, OpenRoomError>
+    ensures limits { IfOk result (λ room. room.limits ≡ limits) }
+    ensures control { IfOk result (λ room. room.control ≡ control) }
+{
     let events = match Events::with_capacity(alloc, MOST_EVENTS) {
         Ok(events) => events,
         Err(_) => return Err(OpenRoomError::NoMemory),
