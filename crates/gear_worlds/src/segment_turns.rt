@@ -1,6 +1,7 @@
 //! How far each journal of a run is in files: its segments are written in order, whichever threads cut them, and a hold waits
 //! that might leave more entries in no file than may be lost.
-ghost use Rattle.std.specs.Prelude.{◌≡◌, ◌≢◌, ◌↔◌, ◌⊎◌, ◌+◌, ◌-◌, ◌^◌, ◌<◌, ◌≤◌, true, false, min, IsTrue};
+ghost use Rattle.std.specs.Prelude.{◌≡◌, ◌≢◌, ◌↔◌, ◌⊎◌, ◌+◌, ◌-◌, ◌^◌, ◌<◌, ◌≤◌, true, false, min, vec_len, IfOk, IsTrue};
+ghost use Rattle.std.specs.Arc.{arc_value};
 ghost use Rattle.std.specs.Duration.{as_nanos};
 ghost use Rattle.gear_worlds.specs.Unkept.{MayBegin};
 
@@ -235,7 +236,9 @@ pub struct SegmentTurns {
 
 impl SegmentTurns {
     /// Nothing is in files yet of the journals of so many balancers, which begin with this number.
-    pub fn new(alloc: Global, balancers: usize, first: u64) -> Result<SegmentTurns, NoMemory> {
+    pub fn new(alloc: Global, balancers: usize, first: u64) -> Result<SegmentTurns, NoMemory>
+        ensures { IfOk result (λ turns. vec_len (arc_value turns.places) ≡ balancers) }
+    {
         let mut places = Vec::with_capacity(alloc, balancers)?;
         for _ in 0..balancers {
             places.push(Place::new(first))?;
@@ -246,7 +249,9 @@ impl SegmentTurns {
     }
 
     /// The same ones, for another shelf.
-    pub fn share(&self) -> Result<SegmentTurns, NoMemory> {
+    pub fn share(&self) -> Result<SegmentTurns, NoMemory>
+        ensures { IfOk result (λ turns. arc_value turns.places ≡ arc_value self.now.places) }
+    {
         Ok(SegmentTurns {
             places: self.places.clone()?,
         })
