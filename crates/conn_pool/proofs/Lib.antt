@@ -4,3 +4,4 @@ mod BeginLaws
 mod DialLaws
 mod NotedLaws
 mod RowLaws
+mod WatchLaws

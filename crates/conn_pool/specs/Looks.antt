@@ -1,14 +1,14 @@
 -- When the watch looks, and how it looks at the links of a member.
-use Rattle.std.specs.Prelude.{ℕ, ◌+◌, ◌^◌, ◌/◌, ◌<◌, ◌≤◌, ◌==◌, min, nat_lt, Bool, List, length, map, Option, Some, None, if◌then◌else◌}
+use Rattle.std.specs.Prelude.{ℕ, ◌/◌, ◌==◌, min, nat_lt, Bool, List, length, map, Option, Some, None, if◌then◌else◌}
+use Rattle.jk_io.specs.Looks.{HavePassed}
 use Rattle.site_config.specs.declared.balancer.Lb.{Lb}
 use Rattle.site_config.specs.declared.endpoint.Endpoint.{Endpoint}
 use Rattle.site_config.specs.Limits.{each_pong_limit}
 use Rattle.conn_pool.specs.declared.watch.Watch.{Watch}
 
 -- so many seconds passed since the last looks
-pub record AreLooksDue (watch : Watch) (now : ℕ) : Type 0 where
-  pub fits : watch.last + watch.every < 2 ^ 64
-  pub passed : watch.last + watch.every ≤ now
+abbrev pub AreLooksDue : Watch → ℕ → Type 0
+AreLooksDue watch now = HavePassed watch.every watch.last now
 
 -- a number of seconds that is set, 0 where it isn't
 abbrev pub set_seconds : Option ℕ → ℕ

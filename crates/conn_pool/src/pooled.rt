@@ -16,7 +16,7 @@ use crate::lent::Lent;
 use crate::noted::{flush_lent, outside_talk, read_lent, write_lent};
 use crate::pool::HandedIn;
 use crate::tape::Tape;
-use jk_io::{Awaited, Beside, Bytes, Dial, IoError, Link, Meanings, Reach, Sink, Source};
+use jk_io::{Awaited, Beside, Bytes, Dial, IoError, Link, Meanings, NoMemory, Reach, Sink, Source};
 use std::alloc::Global;
 use std::marker::Model;
 use std::sync::Wait;
@@ -321,6 +321,11 @@ impl<'p, 'r, D: Dial, T: Tape, R: Wait> Reach for PooledReach<'p, 'r, D, T, R> {
         };
         self.tape.finish(keep);
         self.back = put_back(self.pools, lent, keep);
+    }
+
+    /// Its idle links stay as they are.
+    fn rest(&mut self, _alloc: Global, _now: u64) -> Result<(), NoMemory> {
+        Ok(())
     }
 
     ghost open_in_talk = { λ r. refl };

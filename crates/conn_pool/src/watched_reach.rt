@@ -122,7 +122,10 @@ impl<'p, 'r, D: Dial, T: Tape, R: Wait> Link for WatchedReach<'p, 'r, D, T, R> {
 }
 
 impl<'p, 'r, D: Dial, T: Tape, R: Wait> Reach for WatchedReach<'p, 'r, D, T, R> {
-    ghost use Rattle.std.specs.Prelude.{refl};
+    ghost use Rattle.std.specs.Prelude.{option_map, refl};
+    ghost use Rattle.conn_pool.specs.Watched.{times_of};
+
+    ghost looks = { λ w. option_map times_of w.watch };
 
     fn begin(
         &mut self,

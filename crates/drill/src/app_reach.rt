@@ -4,7 +4,7 @@ ghost use Rattle.jk_io.specs.Told.{Rose};
 
 use crate::app_link::AppLink;
 use ajp_container::AppConfig;
-use jk_io::{Beside, Bytes, IoError, Link, Meanings, Reach, Sink, Source};
+use jk_io::{Beside, Bytes, IoError, Link, Meanings, NoMemory, Reach, Sink, Source};
 use site_config::Config;
 use std::alloc::Global;
 use std::marker::Model;
@@ -117,6 +117,11 @@ impl<'a> Reach for AppReach<'a> {
     fn finish(&mut self, _keep: bool) {
         self.link.clear();
         self.runs = false;
+    }
+
+    /// It has no idle link.
+    fn rest(&mut self, _alloc: Global, _now: u64) -> Result<(), NoMemory> {
+        Ok(())
     }
 
     ghost open_in_talk = { λ r. refl };

@@ -3,6 +3,7 @@ pub mod Chunks
 pub mod Decimals
 pub mod Doors
 pub mod Inputs
+pub mod Looks
 pub mod MemDoors
 pub mod MemReaches
 pub mod Memory

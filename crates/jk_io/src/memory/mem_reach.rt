@@ -563,5 +563,10 @@ impl Reach for MemReach {
         end_run(&mut self.running, self.alloc, &mut self.kept, keep);
     }
 
+    /// Its links stay as they are.
+    fn rest(&mut self, _alloc: Global, _now: u64) -> Result<(), NoMemory> {
+        Ok(())
+    }
+
     ghost open_in_talk = { λ r. refl };
 }

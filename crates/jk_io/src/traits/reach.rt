@@ -7,10 +7,14 @@ use std::alloc::Global;
 
 /// A link to the member of the running talk. Where none runs, a read or a write is refused with Failed.
 pub trait Reach: Link + Meanings<Beside = Beside> {
-    ghost use Rattle.std.specs.Prelude.{◌≡◌, ◌<◌, [], ◌∷◌, true, false, IfSome, IsOk, IfOk, OnOk, IsErrOf, is_ok, slice_index};
+    ghost use Rattle.std.specs.Prelude.{◌≡◌, ◌<◌, [], ◌∷◌, true, false, Option, None, IfSome, IsOk, IfOk, OnOk, IsErrOf, is_ok, slice_index};
+    ghost use Rattle.jk_io.specs.Looks.{LookTimes, LooksIfDue};
     ghost use Rattle.jk_io.specs.Told.{appended, IsEmpty, HasCause};
     ghost use Rattle.jk_io.specs.Talks.{begun_with, failed_talk, IsNoteOf};
     ghost use Rattle.jk_io.specs.declared.reaching.Talk.{Talk};
+
+    // when it looks through its idle links; None where it never does, or doesn't tell it
+    ghost looks: { Self → Option LookTimes } = { λ _. None };
 
     /// Begins a talk with a member, and answers whether its link is new.
     fn begin(
@@ -53,15 +57,15 @@ pub trait Reach: Link + Meanings<Beside = Beside> {
         ensures same_sizes { (Self.beside self.new).sizes ≡ (Self.beside self.old).sizes }
         ensures same_faults { Self.faults self.new ≡ Self.faults self.old };
 
-    /// Looks after idle links between two sessions; most reaches do nothing.
-    fn rest(&mut self, _alloc: Global, _now: u64) -> Result<(), NoMemory>
+    /// Looks after idle links between two sessions, at this moment; most reaches do nothing.
+    fn rest(&mut self, alloc: Global, now: u64) -> Result<(), NoMemory>
         requires { (Self.beside self.old).runs ≡ false }
+
+        // Also where it wanted memory.
+        ensures looks { LooksIfDue (Self.looks self.old) now (Self.looks self.new) }
         ensures same { (Self.incoming self.new ≡ Self.incoming self.old) × (Self.received self.new ≡ Self.received self.old) }
         ensures same_others { (Self.sent self.new ≡ Self.sent self.old) × (Self.beside self.new ≡ Self.beside self.old) }
-        ensures same_faults { Self.faults self.new ≡ Self.faults self.old }
-    {
-        Ok(())
-    }
+        ensures same_faults { Self.faults self.new ≡ Self.faults self.old };
 
     // a reach is open while a talk runs
     ghost open_in_talk: { (r : Self) → Self.is_open r ≡ (Self.beside r).runs };

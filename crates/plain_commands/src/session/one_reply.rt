@@ -147,5 +147,10 @@ impl<N: ReplyName> Reach for OneReply<N> {
         self.reach.finish(keep);
     }
 
+    /// Its links stay as they are.
+    fn rest(&mut self, _alloc: Global, _now: u64) -> Result<(), NoMemory> {
+        Ok(())
+    }
+
     ghost open_in_talk = { λ r. refl };
 }
