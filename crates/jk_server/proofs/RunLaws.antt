@@ -3,6 +3,7 @@ use Rattle.std.proofs.Common.{ℕ, ◌≡◌, ◌<◌, ◌≤◌, ◌+◌, true,
 use Rattle.std.specs.Prelude.{IfSome, IsSome}
 use Rattle.std.proofs.lemmas.List.{length-append, map-append}
 use Rattle.std.proofs.lemmas.List.Elements.{All-nil, All-push}
+use Rattle.jk_io.specs.Looks.{LookTimes}
 use Rattle.jk_io.specs.Told.{appended, IsEmpty, Rose}
 use Rattle.jk_io.specs.declared.reaching.Beside.{Beside}
 use Rattle.jk_io.specs.declared.traits.streams.Meanings.{Ghosts}
@@ -186,17 +187,17 @@ desk_forgot {S} d n desk forgotten same seat =
     ∙ ap (λ (x : SeatNote). record n { desk = record d.desk { receipts = [] }; forgotten = d.forgotten + length d.desk.receipts; shelf = d.shelf; wants = d.wants; met = d.met; seat = x }) seat))))
 
 -- what a worker has after its link was left: another desk
-pub same_but_desk : {K R S Y : Type 0} (answers : K → Option (List ℕ)) (told : Ghosts R Beside) (d n : SharedState S) (k k' : K) (r r' : R) (y y' : Y)
-    → (r' ≡ r) × (k' ≡ k) × (y' ≡ y) → worker_side answers told n k' r' y' ≡ record (worker_side answers told d k r y) { desk = n }
-same_but_desk {K} {R} {S} {Y} answers told d n k k' r r' y y' same =
-    ap (λ (x : R). worker_side answers told n k' x y') same.0
-    ∙ (ap (λ (x : K). worker_side answers told n x r y') same.1 ∙ ap (λ (x : Y). worker_side answers told n k r x) same.2)
+pub same_but_desk : {K R S Y : Type 0} (answers : K → Option (List ℕ)) (told : Ghosts R Beside) (looks : R → Option LookTimes) (d n : SharedState S) (k k' : K) (r r' : R) (y y' : Y)
+    → (r' ≡ r) × (k' ≡ k) × (y' ≡ y) → worker_side answers told looks n k' r' y' ≡ record (worker_side answers told looks d k r y) { desk = n }
+same_but_desk {K} {R} {S} {Y} answers told looks d n k k' r r' y y' same =
+    ap (λ (x : R). worker_side answers told looks n k' x y') same.0
+    ∙ (ap (λ (x : K). worker_side answers told looks n x r y') same.1 ∙ ap (λ (x : Y). worker_side answers told looks n k r x) same.2)
 
 -- what a worker begins its session with
-pub begins_so : {K R S Y : Type 0} (log : LogTells Y) (answers : K → Option (List ℕ)) (told : Ghosts R Beside) (d n : SharedState S) (k : K) (r : R) (y y' : Y) (peer : Peer)
-    → n ≡ forgot_desk d → log.greets y peer y' → BeginsSession log (worker_side answers told d k r y) peer (worker_side answers told n k r y')
-begins_so {K} {R} {S} {Y} log answers told d n k r y y' peer same greeted =
-    record { greeted = greeted; same = ap (λ (x : SharedState S). worker_side answers told x k r y') same }
+pub begins_so : {K R S Y : Type 0} (log : LogTells Y) (answers : K → Option (List ℕ)) (told : Ghosts R Beside) (looks : R → Option LookTimes) (d n : SharedState S) (k : K) (r : R) (y y' : Y) (peer : Peer)
+    → n ≡ forgot_desk d → log.greets y peer y' → BeginsSession log (worker_side answers told looks d k r y) peer (worker_side answers told looks n k r y')
+begins_so {K} {R} {S} {Y} log answers told looks d n k r y y' peer same greeted =
+    record { greeted = greeted; same = ap (λ (x : SharedState S). worker_side answers told looks x k r y') same }
 
 -- what a worker may serve with, it may serve with again
 pub fit_again : {S : Type 0} → (cfg : Config) (rules : List Rule) (d d' : SharedState S) (b b' : Beside)

@@ -1,5 +1,6 @@
 -- A part by what its types tell, and its worker at a moment.
 use Rattle.std.specs.Prelude.{ℕ, Bool, List, Option}
+use Rattle.jk_io.specs.Looks.{LookTimes}
 use Rattle.jk_io.specs.declared.reaching.Beside.{Beside}
 use Rattle.jk_io.specs.declared.traits.streams.Meanings.{Ghosts}
 use Rattle.jk_io.specs.declared.traits.surroundings.Clock.{Ghosts as ClockGhosts}
@@ -13,27 +14,30 @@ use Rattle.jk_server.specs.Worker.{WorkerTells, keeps, worker_side, WorkerSide}
 use Rattle.gear_parts.specs.declared.part.Part.{Part}
 use Rattle.jk_server.specs.declared.part.Post.{Post}
 
--- The tellings of a door, a client's link, a clock and a reach, and of a shelf and a log.
+-- The tellings of a door, a client's link, a clock and a reach, of the reach's looks through its idle links, and of a shelf and a
+-- log.
 pub record PartTells (D R K S Y C X : Type 0) : Type 1 where
   pub door : D → DoorSide C
   pub link : Ghosts C X
   pub clock : K → Option (List ℕ)
   pub reach : Ghosts R Beside
+  pub looks : R → Option LookTimes
   pub keeps : WorkerTells S Y
 
--- what they tell, by their types: `part_tells D.Door D.L.Meanings K.Clock R.Meanings S.Shelf ⟦<Y as ToldLog>⟧.told D.L.may_wait`
-abbrev pub part_tells : {D R K S Y C X : Type 0} → DoorGhosts D C X → Ghosts C X → ClockGhosts K → Ghosts R Beside → ShelfGhosts S → LogTells Y → Bool → PartTells D R K S Y C X
-part_tells of_door of_link of_clock of_reach of_shelf of_log may_wait = record {
+-- what they tell, by their types: `part_tells D.Door D.L.Meanings K.Clock R.Meanings R.looks S.Shelf ⟦<Y as ToldLog>⟧.told D.L.may_wait`
+abbrev pub part_tells : {D R K S Y C X : Type 0} → DoorGhosts D C X → Ghosts C X → ClockGhosts K → Ghosts R Beside → (R → Option LookTimes) → ShelfGhosts S → LogTells Y → Bool → PartTells D R K S Y C X
+part_tells of_door of_link of_clock of_reach looks of_shelf of_log may_wait = record {
   door = side of_door.coming of_door.left of_door.faults;
   link = of_link;
   clock = of_clock.answers;
   reach = of_reach;
+  looks = looks;
   keeps = keeps of_shelf.shelved of_shelf.faults of_log may_wait;
 }
 
 -- the worker of a part at a moment
 abbrev pub worker_of : {L D R K S W Y C X : Type 0} → PartTells D R K S Y C X → Part L D R K S W Y → WorkerSide S Y
-worker_of told part = worker_side told.clock told.reach part.desk part.clock part.reach part.log
+worker_of told part = worker_side told.clock told.reach told.looks part.desk part.clock part.reach part.log
 
 -- whom a worker at this post visits
 abbrev pub visit_at : Post → Peer → Visit

@@ -1,6 +1,7 @@
 -- A worker beside its door: its desk, clock, reach and log at a moment, and its steps between two sessions.
 use Rattle.std.specs.Prelude.{ℕ, ◌≡◌, ◌+◌, Bool, true, false, List, [], length, Option, None}
 use Rattle.jk_io.specs.Answers.{Answers}
+use Rattle.jk_io.specs.Looks.{LookTimes, LooksIfDue}
 use Rattle.jk_io.specs.Moments.{Moment}
 use Rattle.jk_io.specs.declared.failures.IoError.{IoError}
 use Rattle.jk_io.specs.declared.reaching.Beside.{Beside}
@@ -17,19 +18,22 @@ use Rattle.site_config.specs.declared.config.Config.{Config}
 use Rattle.site_mounts.specs.Sites.{stands_in}
 use Rattle.site_mounts.specs.declared.rule.Rule.{Rule}
 
--- Its desk, the answers that its clock is to give, what its reach tells, and where the rows of its requests are put.
+-- Its desk, the answers that its clock is to give, what its reach tells, when that looks through its idle links, and where the
+-- rows of its requests are put.
 pub record WorkerSide (S Y : Type 0) : Type 0 where
   pub desk : SharedState S
   pub clock : Option (List ℕ)
   pub reach : ReachSide
+  pub looks : Option LookTimes
   pub log : Y
 
--- a worker at a moment, by what its types tell: `worker_side K.answers R.Meanings desk clock reach log`
-abbrev pub worker_side : {K R S Y : Type 0} → (K → Option (List ℕ)) → Ghosts R Beside → SharedState S → K → R → Y → WorkerSide S Y
-worker_side answers told desk clock reach log = record {
+-- a worker at a moment, by what its types tell: `worker_side K.answers R.Meanings R.looks desk clock reach log`
+abbrev pub worker_side : {K R S Y : Type 0} → (K → Option (List ℕ)) → Ghosts R Beside → (R → Option LookTimes) → SharedState S → K → R → Y → WorkerSide S Y
+worker_side answers told looks desk clock reach log = record {
   desk = desk;
   clock = answers clock;
   reach = record { talks = (told.beside reach).talks; faults = told.faults reach };
+  looks = looks reach;
   log = log;
 }
 
@@ -66,11 +70,13 @@ pub record BeginsSession {S Y : Type 0} (log : LogTells Y) (w : WorkerSide S Y) 
   pub greeted : log.greets w.log peer n.log
   pub same : n ≡ record (forgot w) { log = n.log }
 
--- After a session the clock is read and the reach rests, which changes nothing that it tells.
+-- After a session the clock is read, and at the moment that it gave the reach rests: it looks through its idle links if a look
+-- is due then, and nothing else that it tells changes.
 pub record Rests {S Y : Type 0} (w n : WorkerSide S Y) : Type 0 where
   pub now : ℕ
   pub read : Answers w.clock now n.clock
-  pub same : n ≡ record w { clock = n.clock }
+  pub looked : LooksIfDue w.looks now n.looks
+  pub same : n ≡ record w { clock = n.clock; looks = n.looks }
 
 -- a desk whose stray was taken
 abbrev pub took : {S : Type 0} → SharedState S → SharedState S

@@ -288,7 +288,7 @@ pub(crate) fn serve_client<
     requires fit { IsFit post.cfg.now post.map.now part.old.desk.desk (R.beside part.old.reach) }
     requires logged { Y.broken_by part.old.log ≡ None }
     requires room { 0 < D.room part.old.door }
-    ensures { LeavesClient (part_tells D.Door D.L.Meanings K.Clock R.Meanings S.Shelf ⟦<Y as ToldLog>⟧.told D.L.may_wait)
+    ensures { LeavesClient (part_tells D.Door D.L.Meanings K.Clock R.Meanings R.looks S.Shelf ⟦<Y as ToldLog>⟧.told D.L.may_wait)
         post.entry part.old part.new link peer.now result }
 {
     let before = forget_last(&mut part.desk);
@@ -323,7 +323,7 @@ pub(crate) fn go_on<L: SiteName, D: Door, R: Reach, K: Clock, S: Shelf, W, Y: Wo
 ) -> Option<WorkerEnd<L>>
     requires idle { (R.beside part.old.reach).runs ≡ false }
     requires none_held { part.old.desk.desk.held ≡ [] }
-    ensures { RestsPart (part_tells D.Door D.L.Meanings K.Clock R.Meanings S.Shelf ⟦<Y as ToldLog>⟧.told D.L.may_wait)
+    ensures { RestsPart (part_tells D.Door D.L.Meanings K.Clock R.Meanings R.looks S.Shelf ⟦<Y as ToldLog>⟧.told D.L.may_wait)
         part.old part.new result }
 {
     let now = part.clock.now();

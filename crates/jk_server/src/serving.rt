@@ -30,7 +30,7 @@ pub fn serve_part<L: SiteName, D: Door, R: Reach, K: Clock, S: Shelf, W: Wait, Y
 ) -> WorkerEnd<L>
     requires fit { IsFit cfg.now map.now part.old.desk.desk (R.beside part.old.reach) }
     requires logged { Y.broken_by part.old.log ≡ None }
-    ensures served { ServesPart (part_tells D.Door D.L.Meanings K.Clock R.Meanings S.Shelf ⟦<Y as ToldLog>⟧.told D.L.may_wait)
+    ensures served { ServesPart (part_tells D.Door D.L.Meanings K.Clock R.Meanings R.looks S.Shelf ⟦<Y as ToldLog>⟧.told D.L.may_wait)
         (visit cfg.now map.now number) part.old part.new result }
     ensures fit { IsFit cfg.now map.now part.new.desk.desk (R.beside part.new.reach) }
     ensures parts { part.new.desk.desk.parts ≡ part.old.desk.desk.parts }
@@ -58,7 +58,7 @@ fn serve_turn<L: SiteName, D: Door, R: Reach, K: Clock, S: Shelf, W: Wait, Y: Wo
 ) -> Option<WorkerEnd<L>>
     requires fit { IsFit post.cfg.now post.map.now part.old.desk.desk (R.beside part.old.reach) }
     requires logged { Y.broken_by part.old.log ≡ None }
-    ensures { TurnsPart (part_tells D.Door D.L.Meanings K.Clock R.Meanings S.Shelf ⟦<Y as ToldLog>⟧.told D.L.may_wait)
+    ensures { TurnsPart (part_tells D.Door D.L.Meanings K.Clock R.Meanings R.looks S.Shelf ⟦<Y as ToldLog>⟧.told D.L.may_wait)
         post.entry part.old part.new sessions result }
 {
     let (link, peer) = match next_client(alloc, &mut part.door) {
