@@ -135,7 +135,7 @@ one_grows lb member endpoint plan fresh s n answer (inr (inl linkless)) = record
 one_grows lb member endpoint plan fresh s n answer (inr (inr wanted)) = record {
   gained = [];
   talks = wanted.2.noted ∙ sym (appended_no_talk s.talks);
-  reach_faults = wanted.2.no_fewer;
+  reach_faults = omega (arith, wanted.2.steady);
   client_faults = omega (arith, ap (λ (x : Moment). x.faults) wanted.2.client);
 }
 

@@ -116,9 +116,9 @@ pub record HasNoLink (lb member : ℕ) (endpoint : Endpoint) (fresh : Bool) (s n
   pub client : n.client ≡ s.client
   pub body : n.body ≡ s.body
 
--- No talk was begun, since memory was wanted.
+-- No talk was begun, since memory was wanted. That is no fault of the reach.
 pub record IsUnbegun (s n : Around) : Type 0 where
-  pub no_fewer : s.faults ≤ n.faults
+  pub steady : n.faults ≡ s.faults
   pub noted : n.talks ≡ s.talks
   pub client : n.client ≡ s.client
   pub body : n.body ≡ s.body
