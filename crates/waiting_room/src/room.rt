@@ -1,5 +1,5 @@
 //! The room: what all doors share.
-ghost use Rattle.std.specs.Prelude.{◌≡◌, ◌==◌, IfNone, if◌then◌else◌};
+ghost use Rattle.std.specs.Prelude.{◌≡◌, ◌==◌, ◌-◌, ◌≤◌, ◌↔◌, IfNone, IfSome, IsTrue, None, if◌then◌else◌, true};
 ghost use Rattle.waiting_room.specs.Stays.{end_after};
 ghost use Rattle.waiting_room.specs.Turns.{GivesTurn, KeepsAway};
 
@@ -472,11 +472,20 @@ impl Room {
     }
 }
 
+// Whether it is said at this moment that descriptors are wanted: a minute after it was said last.
+fn is_want_told(told: Option<u64>, now: u64) -> bool
+    ensures first { told ≡ None → result ≡ true }
+    ensures apart { IfSome told (λ last. IsTrue result ↔ (60000 ≤ now - last)) }
+{
+    match told {
+        Some(last) => now.saturating_sub(last) >= WANT_TOLD_MILLIS,
+        None => true,
+    }
+}
+
 // Says that descriptors are wanted, at most once a minute. Standard error that can't be written is no fault.
 fn tell_want<R: Eprint>(rt: &R, told: &mut Option<u64>, now: u64) {
-    if let Some(last) = *told
-        && now.saturating_sub(last) < WANT_TOLD_MILLIS
-    {
+    if !is_want_told(*told, now) {
         return;
     }
     *told = Some(now);
