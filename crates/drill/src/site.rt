@@ -1,9 +1,11 @@
 //! The site of a drill: two members behind one balancer, and the container that both of them are.
-ghost use Rattle.std.specs.Prelude.{◌≡◌, ◌≤◌, [], ◌∷◌, length, codes, true, IfOk};
+ghost use Rattle.std.specs.Prelude.{◌≡◌, ◌≤◌, ℕ, [], ◌∷◌, length, codes, true, IfOk, Some, slice_get};
 ghost use Rattle.exchange.specs.Requests.{sizes_of};
+ghost use Rattle.site_config.specs.declared.balancer.Lb.{Lb};
 ghost use Rattle.site_config.specs.declared.config.Named.TheVariants as named;
+ghost use Rattle.site_config.specs.declared.endpoint.Endpoint.{Endpoint};
 ghost use Rattle.site_mounts.specs.Sites.{stands_in};
-ghost use Rattle.drill.specs.Sites.{IsDrillBook, IsDrillSite, member_of, two_members};
+ghost use Rattle.drill.specs.Sites.{IsDrillApp, IsDrillBook, IsDrillEnd, IsDrillLb, IsDrillSite, member_of, two_members};
 
 use ajp_container::AppConfig;
 use jk_io::{Bytes, ListOf, NoMemory};
@@ -39,6 +41,7 @@ pub(crate) struct DrillSite {
     pub(crate) map: UriMap,
     pub(crate) app: AppConfig,
     pub ghost site: { IsDrillSite cfg map },
+    pub ghost container: { IsDrillApp app },
 }
 
 fn member(alloc: Global, name: &[u8], factor: u32) -> Result<MemberConfig, NoMemory>
@@ -75,7 +78,9 @@ pub(crate) fn book_config(alloc: Global) -> Result<LbConfig, NoMemory>
     }
 }
 
-fn endpoint(alloc: Global) -> Result<Endpoint, NoMemory> {
+fn endpoint(alloc: Global) -> Result<Endpoint, NoMemory>
+    ensures { IfOk result IsDrillEnd }
+{
     Ok(Endpoint {
         host: Bytes::from_slice(alloc, b"localhost")?,
         port: PORT,
@@ -92,7 +97,8 @@ fn endpoint(alloc: Global) -> Result<Endpoint, NoMemory> {
 }
 
 fn endpoints(alloc: Global) -> Result<EndList, NoMemory>
-    ensures { IfOk result (λ ends. length ends ≡ 2) }
+    ensures two { IfOk result (λ ends. length ends ≡ 2) }
+    ensures each { IfOk result (λ ends. (m : ℕ) (e : Endpoint) → slice_get ends m ≡ Some e → IsDrillEnd e) }
 {
     let mut ends = EndList::new(alloc);
     ends.push(endpoint(alloc)?)?;
@@ -102,8 +108,10 @@ fn endpoints(alloc: Global) -> Result<EndList, NoMemory>
 
 fn balancer_with(alloc: Global, book: LbConfig, ends: EndList) -> Result<Lb, NoMemory>
     requires book { IsDrillBook book }
-    requires ends { length ends ≡ 2 }
-    ensures { IfOk result (λ lb. length lb.book.members ≡ 2) }
+    requires two { length ends ≡ 2 }
+    requires each { (m : ℕ) (e : Endpoint) → slice_get ends m ≡ Some e → IsDrillEnd e }
+    ensures two { IfOk result (λ lb. length lb.book.members ≡ 2) }
+    ensures balancer { IfOk result IsDrillLb }
 {
     Ok(Lb {
         name: Bytes::from_slice(alloc, BALANCER)?,
@@ -115,7 +123,8 @@ fn balancer_with(alloc: Global, book: LbConfig, ends: EndList) -> Result<Lb, NoM
 }
 
 fn balancers(alloc: Global) -> Result<LbList, NoMemory>
-    ensures { IfOk result (λ lbs. sizes_of lbs ≡ 2 ∷ []) }
+    ensures sized { IfOk result (λ lbs. sizes_of lbs ≡ 2 ∷ []) }
+    ensures balancer { IfOk result (λ lbs. (lb : Lb) → slice_get lbs 0 ≡ Some lb → IsDrillLb lb) }
 {
     let book = book_config(alloc)?;
     let lb = balancer_with(alloc, book, endpoints(alloc)?)?;
@@ -134,6 +143,8 @@ fn names(alloc: Global) -> Result<NamedList, NoMemory>
 
 fn config(alloc: Global) -> Result<Config, NoMemory>
     ensures sized { IfOk result (λ c. sizes_of c.lbs ≡ 2 ∷ []) }
+    ensures balancer { IfOk result (λ c. (lb : Lb) → slice_get c.lbs 0 ≡ Some lb → IsDrillLb lb) }
+    ensures maintains { IfOk result (λ c. c.maintain ≡ 60) }
     ensures named { IfOk result (λ c. c.listed ≡ (codes "lb", named.Balancer 0) ∷ []) }
 {
     let lbs = balancers(alloc)?;
@@ -158,7 +169,9 @@ fn map_of(alloc: Global, cfg: &Config) -> Result<UriMap, NoMemory>
     }
 }
 
-fn application(alloc: Global) -> Result<AppConfig, NoMemory> {
+fn application(alloc: Global) -> Result<AppConfig, NoMemory>
+    ensures { IfOk result IsDrillApp }
+{
     Ok(AppConfig {
         route: Bytes::from_slice(alloc, b"drill")?,
         secret: None,
