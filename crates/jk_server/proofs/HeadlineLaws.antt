@@ -1,23 +1,27 @@
 -- The headline of a run, by what its workers did and how its closing ended.
-use Rattle.std.proofs.Common.{ℕ, suc, ◌≡◌, ◌+◌, List, [], ◌∷◌, length, map, Option, refl, sym, ap, ◌∙◌, subst}
+use Rattle.std.proofs.Common.{ℕ, suc, ◌≡◌, ◌+◌, List, [], ◌∷◌, length, map, Option, inl, inr, refl, sym, ap, ◌∙◌, subst, arith}
 use Rattle.std.specs.List.{All, AllZip}
 use Rattle.std.proofs.lemmas.List.Elements.{All-head, All-tail}
+use Rattle.std.proofs.lemmas.Option.{slice_get_cases, slice_get_within}
 use Rattle.jk_io.specs.Told.{Rose}
 use Rattle.jk_io.specs.declared.traits.streams.Meanings.{Ghosts}
 use Rattle.jk_io.specs.declared.traits.surroundings.Peer.{Peer}
 use Rattle.lb_model.specs.declared.journal.Entry.{Entry}
+use Rattle.lb_model.specs.declared.opening.Opening.{Opening}
 use Rattle.lb_model.specs.declared.segment.Segment.{Segment}
 use Rattle.lb_book.specs.Journal.{Journal}
+use Rattle.lb_book.specs.PlainDesks.{AreLegal}
 use Rattle.lb_book.specs.Returned.{AreReturned, HaveReturned}
 use Rattle.lb_book.specs.declared.receipt.Receipt.{Receipt}
+use Rattle.lb_book.proofs.HistoryLaws.{whole_of}
 use Rattle.client_session.specs.Requests.{Visit}
-use Rattle.lb_shared.specs.Histories.{SeatNote, noted, own_in}
+use Rattle.lb_shared.specs.Histories.{IsSiteHistory, SeatNote, entries_of, noted, own_in}
 use Rattle.site_config.specs.declared.balancer.Lb.{Lb}
 use Rattle.request_log.specs.declared.format.Part.{Part as FormatPart}
 use Rattle.request_log.specs.LogStates.{LogState}
 use Rattle.gear_parts.specs.Gears.{GearSide}
 use Rattle.jk_server.specs.Closings.{Closes, KeepsFirst, Shelves, ShelvesFront}
-use Rattle.jk_server.specs.Headline.{AreEnded, AreSessions, HasBooks, IsHeadline, IsOneList, MetNoStray, NamesItsStray, told_in}
+use Rattle.jk_server.specs.Headline.{AreEnded, AreLegalFrom, AreSessions, HasBooks, IsHeadline, IsOneList, MetNoStray, NamesItsStray, told_in}
 use Rattle.jk_server.specs.Runs.{AreServedGears}
 use Rattle.jk_server.specs.Served.{Run}
 use Rattle.jk_server.specs.Worker.{WorkerTells}
@@ -87,6 +91,14 @@ returned_each log (s ∷ seats) (w ∷ workers) told back = (
   returned_each log seats workers told.1 back.1,
 )
 
+-- So all entries of each balancer follow the one-thread rule, since the kept ones of its Book do.
+legal_from : (starts : List Opening) (log : List (ℕ × (ℕ × Entry))) (books : List Journal) → IsSiteHistory starts log books → AreLegal books → AreLegalFrom starts log
+legal_from starts log books history sound lb o at =
+    elim (slice_get_cases books lb).1 [
+      | inl found ↦ (whole_of o (entries_of lb log) found.0 (history.each lb o found.0 at found.2) (sound lb found.0 found.2)).legal
+      | inr past ↦ absurd (omega (arith, past.0, history.count, slice_get_within starts lb o at))
+    ]
+
 one_list : {C S Y : Type 0} (lbs : List Lb) (seats : List SeatNote) (workers : List (List (Run C S Y))) (books : List Journal) → AreEnded lbs seats books
     → AllZip (λ (s : SeatNote) (runs : List (Run C S Y)). own_in s.number s.seen ≡ noted (told_in runs)) seats workers
     → AllZip (λ (s : SeatNote) (runs : List (Run C S Y)). MetNoStray runs → HaveReturned (told_in runs)) seats workers
@@ -97,6 +109,7 @@ one_list lbs seats workers books ended own back = record {
   starts = ended.starts;
   log = ended.closed.closed.log;
   history = ended.closed.closed.history;
+  legal = legal_from _ ended.closed.closed.log books ended.closed.closed.history ended.sited.sound;
   numbers = map (λ s. s.number) seats;
   apart = ended.closed.closed.apart;
   told = told_each ended.closed.closed.log seats workers ended.closed.closed.own own;

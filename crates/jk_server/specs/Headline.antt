@@ -1,23 +1,27 @@
 -- The headline of a run: one list of entries of the balancers, and a session for each client. Read this first.
 --
--- Of the run there is one list of entries, sound from where the balancers of the configuration start and ending in the present
--- state of the Books, of which the last segments went to the shelf. The sessions of each worker were told exactly the entries of
--- its own desk in it, in order, each once; and each entry of the list was told to a session of one worker. Of each worker that
--- met no stray, each ticket that a Select gave out came back by a later Return in the list.
+-- Of the run there is one list of entries. Those of each balancer, all of them, follow the one-thread rule from where the
+-- configuration has it start, and they end in the present state of its Book, of which the last segment went to the shelf. The
+-- sessions of each worker were told exactly the entries of its own desk in it, in order, each once; and each entry of the list was
+-- told to a session of one worker. Of each worker that met no stray, each ticket that a Select gave out came back by a later
+-- Return in the list.
 -- Each client was served by one session, of which `IsRun` says what its requests were, what the desk, the talks and the client
 -- have of them, and why it ended.
-use Rattle.std.specs.Prelude.{ℕ, ◌≡◌, ◌+◌, List, [], ◌∷◌, ◌++◌, length, map}
+use Rattle.std.specs.Prelude.{ℕ, ◌≡◌, ◌+◌, List, [], ◌∷◌, ◌++◌, length, map, Some, slice_get}
 use Rattle.std.specs.List.{All, AllZip, Contains, flat_map}
 use Rattle.jk_io.specs.declared.traits.streams.Meanings.{Ghosts}
 use Rattle.jk_io.specs.declared.traits.surroundings.Peer.{Peer}
+use Rattle.lb_model.specs.Legal.{IsLegal}
+use Rattle.lb_model.specs.Limits.{modern_rules}
 use Rattle.lb_model.specs.declared.journal.Entry.{Entry}
+use Rattle.lb_model.specs.declared.opening.Opening.{Opening}
 use Rattle.lb_book.specs.Journal.{Journal}
 use Rattle.lb_book.specs.Returned.{AreReturned}
 use Rattle.lb_book.specs.declared.receipt.Receipt.{Receipt}
 use Rattle.client_session.specs.Requests.{Visit}
 use Rattle.client_session.specs.declared.ending.SessionStop.TheVariants as stop
 use Rattle.exchange.specs.Requests.{sizes_of}
-use Rattle.lb_shared.specs.Histories.{AreDistinct, IsSiteHistory, SeatNote, noted, own_in, starts_of}
+use Rattle.lb_shared.specs.Histories.{AreDistinct, IsSiteHistory, SeatNote, entries_of, noted, own_in, starts_of}
 use Rattle.lb_shared.specs.Sites.{AreSited}
 use Rattle.site_reports.specs.Starts.{AreStarts}
 use Rattle.lb_closing.specs.OneHistory.{IsOneHistory}
@@ -37,6 +41,10 @@ told_in runs = flat_map (λ r. r.to.desk.desk.receipts) runs
 abbrev pub MetNoStray : {C S Y : Type 0} → List (Run C S Y) → Type 0
 MetNoStray runs = All (λ r. IsStray r.end.stop → ⊥) runs
 
+-- All entries of each balancer follow the one-thread rule from its opening on, also those that were cut from its Book since.
+abbrev pub AreLegalFrom : List Opening → (log : List (ℕ × (ℕ × Entry))) → Type 0
+AreLegalFrom starts log = (lb : ℕ) (o : Opening) → slice_get starts lb ≡ Some o → IsLegal modern_rules o (entries_of lb log)
+
 -- One list of entries, each with the number of the desk that added it and with its balancer, made these Books what they are.
 -- The balancers began with number 0 at the moment `at`. Each worker had a desk of another number, and of that number the list
 -- has exactly what the worker's sessions were told, in order. It has no other entries: each has the number of one of these desks.
@@ -47,6 +55,7 @@ pub record IsOneList {C S Y : Type 0} (lbs : List Lb) (workers : List (List (Run
   pub starts : AreStarts lbs at 0 begun
   pub log : List (ℕ × (ℕ × Entry))
   pub history : IsSiteHistory (starts_of begun) log books
+  pub legal : AreLegalFrom (starts_of begun) log
   pub numbers : List ℕ
   pub apart : AreDistinct numbers
   pub told : AllZip (λ number runs. own_in number log ≡ noted (told_in runs)) numbers workers
