@@ -72,7 +72,8 @@ logged_status : {W G C S O X Z L : Type 0} (told : Tells W G C S O X Z) (cfg : _
 unfolding IsOfRun
 logged_status told cfg rules format threads wanted s n ended k (inl lacks) e =
     elim lacks.why [ inl a ↦ let status = a.0 in inr (inl cc) | inr b ↦ let status = b.0 in inr (inr cc) ]
-logged_status told cfg rules format threads wanted s n ended k (inr ran) e = run_status ran.ends ran.closing k (sym ran.status ∙ e)
+logged_status told cfg rules format threads wanted s n ended k (inr (inl wants)) e = let status = wants.status in inr (inr cc)
+logged_status told cfg rules format threads wanted s n ended k (inr (inr ran)) e = run_status ran.ends ran.closing k (sym ran.status ∙ e)
 
 -- a line that refuses something
 line_status : {G L : Type 0} (s n : CommandSide G) (line : List ℕ) (ended : CommandEnd L) (k : ℕ) → WritesLine s.sent n.sent s.output_faults n.output_faults line ended → ended ≡ server.Status k → Answered s n k

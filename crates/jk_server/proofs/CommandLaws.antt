@@ -1,5 +1,5 @@
 -- How a command that asks for workers ends where a gear is refused or memory is wanted.
-use Rattle.std.proofs.Common.{ℕ, ◌≡◌, ◌+◌, ◌<◌, ◌≤◌, List, [], length, None, Err, inl, inr, refl, sym, ◌∙◌, arith, lit≤}
+use Rattle.std.proofs.Common.{ℕ, ◌≡◌, ◌+◌, ◌<◌, ◌≤◌, List, [], length, None, Err, inl, inr, refl, sym, ◌∙◌, subst, arith, lit≤}
 use Rattle.jk_io.specs.Told.{appended, HasCause}
 use Rattle.jk_io.specs.declared.failures.IoError.{IoError}
 use Rattle.jk_io.specs.declared.failures.IoError.TheVariants as io
@@ -19,22 +19,17 @@ pub works_err : {G L T : Type 0} (threads : ℕ) (Runs : WorldSide G → WorldSi
     → RefusesGear threads s n → HasCause {T = T} s.faults n.faults (Err e) → ended ≡ end_by e → Works threads Runs s n ended
 works_err threads Runs s n io.Failed ended refused cause is = NoGear (record { refused = refused; status = is; cause = cause.failed refl })
 works_err threads Runs s n io.NoMemory ended refused cause is =
-    NoRoom (record { gears = refused.gears; back = refused.gears; passed = refused.passed; few = omega (arith, refused.fewer); unserved = inl refl; calm = cause.wanted refl; status = is })
+    NoRoom (record { gears = refused.gears; passed = refused.passed; few = omega (arith, refused.fewer); calm = cause.wanted refl; status = is })
 
 -- memory was wanted before anything was done
 pub wants_room : {G L : Type 0} (threads : ℕ) (Runs : WorldSide G → WorldSide G → CommandEnd L → Type 0) (s : WorldSide G) → Works threads Runs s s (end.Status 6)
-wants_room threads Runs s = NoRoom (record { gears = []; back = []; passed = nothing_passed s; few = omega arith; unserved = inl refl; calm = refl; status = refl })
-
--- memory was wanted after gears were taken, and none came back
-pub wants_gears : {G L : Type 0} (threads : ℕ) (Runs : WorldSide G → WorldSide G → CommandEnd L → Type 0) (s n : WorldSide G) (gears : List G)
-    → HandsAndTakes s n gears [] → length gears ≡ threads → n.faults ≡ s.faults → Works threads Runs s n (end.Status 6)
-wants_gears threads Runs s n gears taken all calm = NoRoom (record { gears = gears; back = []; passed = taken; few = omega (arith, all); unserved = inr refl; calm = calm; status = refl })
+wants_room threads Runs s = NoRoom (record { gears = []; passed = nothing_passed s; few = omega arith; calm = refl; status = refl })
 
 -- memory was wanted after gears were taken, and they came back as they were
 pub wants_back : {G L : Type 0} (threads : ℕ) (Runs : WorldSide G → WorldSide G → CommandEnd L → Type 0) (s n : WorldSide G) (gears back : List G)
     → HandsAndTakes s n gears back → back ≡ gears → length gears ≡ threads → n.faults ≡ s.faults → Works threads Runs s n (end.Status 6)
-wants_back threads Runs s n gears back passed same all calm =
-    NoRoom (record { gears = gears; back = back; passed = passed; few = omega (arith, all); unserved = inl same; calm = calm; status = refl })
+wants_back {G} threads Runs s n gears back passed same all calm =
+    NoRoom (record { gears = gears; passed = subst (λ (gs : List G). HandsAndTakes s n gears gs) same passed; few = omega (arith, all); calm = calm; status = refl })
 
 -- all that were taken come back
 pub may_come_back : {G : Type 0} (s m : WorldSide G) (gears left : List G) (count : ℕ) → HandsAndTakes s m gears [] → count ≡ length left → length left ≡ length gears → count ≤ m.out

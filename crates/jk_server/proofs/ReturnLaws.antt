@@ -28,6 +28,12 @@ all_started [] begun e = ap length e
 all_started (first ∷ rest) [] e = absurd e
 all_started (first ∷ rest) (first' ∷ rest') e = ap (λ (l : List _). length (first ∷ l)) e.3
 
+-- as many gears as there were
+pub all_begun : {G C S O : Type 0} (at : G → GearSide C S O) (before begun : List G) → AreStarted (map at before) (map at begun) → length begun ≡ length before
+all_begun at before begun started =
+    let n = all_started (map at before) (map at begun) started in
+    omega (arith, length-map before at, length-map begun at)
+
 all_left : {C S O L X : Type 0} (visits : ℕ → Peer → Visit) (told : Ghosts C X) (of : WorkerTells S (Option (LogState O))) (format : List FormatPart) (number : ℕ) (begun left : List (GearSide C S O)) (seats : List SeatNote) (ends : List (WorkerEnd L))
     → AreServedGears visits told of format number begun left seats ends → length left ≡ length begun
 all_left visits told of format number [] [] [] [] s = refl

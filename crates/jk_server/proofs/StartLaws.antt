@@ -1,5 +1,5 @@
 -- Workers that begin, said of their gears.
-use Rattle.std.proofs.Common.{ℕ, ◌≡◌, List, [], ◌∷◌, length, refl, map, IfOk, Result, Ok, Err, Option, Some, None, sym, ap, ◌∙◌, subst}
+use Rattle.std.proofs.Common.{ℕ, ◌≡◌, List, [], ◌∷◌, length, refl, map, IfErr, IfOk, Result, Ok, Err, Option, Some, None, sym, ap, ◌∙◌, subst}
 use Rattle.std.specs.List.{All}
 use Rattle.std.proofs.lemmas.List.{length-map}
 use Rattle.std.proofs.lemmas.List.Elements.{All-map}
@@ -136,6 +136,13 @@ started_run {D} {G} {T} {K} {S} {O} visits told shelved of format lbs at gears l
 pub ok_weaker : {T E : Type 0} (P Q : T → Type 0) (r : Result T E) → IfOk r P → ((x : T) → P x → Q x) → IfOk r Q
 ok_weaker P Q (Ok x) is then = then x is
 ok_weaker P Q (Err e) is then = is
+
+-- gears that came back as they were at the start
+pub err_started : {D G T K S O C R V : Type 0} (at : Gear D G T K S O → GearSide C S O) (items : V → List (Gear D G T K S O)) (gears begun : List (Gear D G T K S O)) (r : Result R V)
+    → AreStarted (map at gears) (map at begun) → IfErr r (λ back. items back ≡ begun) → IfErr r (λ back. AreStarted (map at gears) (map at (items back)))
+err_started at items gears begun (Ok run) started same = same
+err_started {D} {G} {T} {K} {S} {O} at items gears begun (Err back) started same =
+    subst (λ (gs : List (Gear D G T K S O)). AreStarted (map at gears) (map at gs)) (sym same) started
 
 -- a balancer's pools are as many as its members
 pub table_counts : (lbs : List Lb) → counts (pool_table lbs) ≡ sizes_of lbs

@@ -1,6 +1,6 @@
 -- `serve` and `container`, by what each does with the outside and how it ends. Read this first; a run of the one is in
 -- specs/Runs.antt, and one of the other in gear_parts' specs/Containers.antt.
-use Rattle.std.specs.Prelude.{◌≡◌, ℕ, ◌-◌, ◌≤◌, ◌⊎◌, min, max, List, [], length, map, Option, Some, None, codes}
+use Rattle.std.specs.Prelude.{◌≡◌, ℕ, ◌-◌, ◌≤◌, ◌⊎◌, min, max, List, length, map, Option, Some, None, codes}
 use Rattle.std.specs.List.{All, AllZip}
 use Rattle.client_session.specs.Requests.{visit}
 use Rattle.ajp_container.specs.declared.worker_ends.ContainerWorker.{ContainerWorker}
@@ -16,6 +16,7 @@ use Rattle.site_mounts.specs.declared.rule.Rule.{Rule}
 use Rattle.request_log.specs.Formats.{IsFormat, IsRefusedFrom, refusal_line}
 use Rattle.request_log.specs.declared.format.Part.{Part as FormatPart}
 use Rattle.gear_parts.specs.Containers.{IsContainerRun}
+use Rattle.gear_parts.specs.Starts.{AreStarted}
 use Rattle.jk_server.specs.Runs.{IsSiteRun}
 use Rattle.jk_server.specs.RunTells.{logging}
 use Rattle.jk_server.specs.declared.runs.ends.Closing.{Closing}
@@ -79,13 +80,11 @@ pub record LacksGear {G L : Type 0} (threads : ℕ) (s n : WorldSide G) (ended :
   pub cause : Rose s.faults n.faults
 
 -- Memory was wanted, and the world had no fault: the gears that were handed out, no more than there are workers, came back as
--- they were, or none did.
+-- they were.
 pub record WantsMemory {G L : Type 0} (threads : ℕ) (s n : WorldSide G) (ended : CommandEnd L) : Type 0 where
   pub gears : List G
-  pub back : List G
-  pub passed : HandsAndTakes s n gears back
+  pub passed : HandsAndTakes s n gears gears
   pub few : length gears ≤ threads
-  pub unserved : (back ≡ gears) ⊎ (back ≡ [])
   pub calm : n.faults ≡ s.faults
   pub status : ended ≡ end.Status 6
 
@@ -101,6 +100,19 @@ pub record LacksLog {G L : Type 0} (threads : ℕ) (s n : WorldSide G) (ended : 
   pub count : length gears ≡ threads
   pub passed : HandsAndTakes s n gears gears
   pub why : ((ended ≡ end.Status 4) × Rose s.faults n.faults) ⊎ ((ended ≡ end.Status 6) × (n.faults ≡ s.faults))
+
+-- Memory was wanted before the workers of a site, and the world had no fault: a gear for each was handed out and given its log
+-- where logs are wanted, and all came back, of which nothing was asked but the moment at which the balancers start.
+pub record WantsStart {W G C S O X Z L : Type 0} (told : Tells W G C S O X Z) (threads : ℕ) (wanted : GearWants) (s n : WorldSide G) (ended : CommandEnd L) : Type 0 where
+  pub gears : List G
+  pub begun : List G
+  pub back : List G
+  pub count : length gears ≡ threads
+  pub logged : told.are_given wanted.log gears begun
+  pub unasked : AreStarted (map told.gear begun) (map told.gear back)
+  pub passed : HandsAndTakes s n gears back
+  pub calm : n.faults ≡ s.faults
+  pub status : ended ≡ end.Status 6
 
 -- The workers of a site ran: the world handed out a gear for each, in order, each just made and as that worker wants it, and
 -- each was given its log where logs are wanted; what one run over the site made of these gears came back, in order, as far as the run
@@ -119,9 +131,10 @@ pub record RunsSite {W G C S O X Z L : Type 0} (told : Tells W G C S O X Z) (cfg
   pub passed : HandsAndTakes s n gears (returned closing left)
   pub status : ended ≡ end_of_run ends closing
 
--- The workers of a site ran, or one of them had no log.
+-- The workers of a site ran, or one of them had no log, or memory was wanted before they did.
 abbrev pub RunsLogged : {W G C S O X Z L : Type 0} → Tells W G C S O X Z → Config → List Rule → List FormatPart → (threads : ℕ) → GearWants → (s n : WorldSide G) → CommandEnd L → Type 0
-RunsLogged told cfg rules format threads wanted s n ended = LacksLog threads s n ended ⊎ RunsSite told cfg rules format threads wanted s n ended
+RunsLogged told cfg rules format threads wanted s n ended =
+    LacksLog threads s n ended ⊎ WantsStart told threads wanted s n ended ⊎ RunsSite told cfg rules format threads wanted s n ended
 
 -- The workers of a container ran, in the same way. Each gear came back with all that it had but its door.
 pub record RunsContainer {W G C S O X Z L : Type 0} (told : Tells W G C S O X Z) (app : AppConfig) (threads : ℕ) (wanted : GearWants) (s n : WorldSide G) (ended : CommandEnd L) : Type 0 where

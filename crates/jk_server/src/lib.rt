@@ -3,12 +3,12 @@
 //! Source: own rules for the causes of a worker's end, what is done between two sessions, the order of a run's closing, and the
 //! statuses of both orders (docs/DECISIONS.md).
 //! Contract: `serve`, clause `serves`, and `contain`, clause `contains`, over a world that hands out gears; below them
-//! `serve_gears`, and `contain_gears` of gear_parts, clause `ran`, for gears; `serve_part`, clauses `served`, `fit` and `parts`,
-//! for a part; `run_container` of ajp_container for containers. Read first:
-//! specs/Commands.antt; then specs/Runs.antt, over specs/Served.antt and client_session's specs/Sessions.antt;
-//! specs/Closings.antt, and gear_parts' specs/Containers.antt.
-//! Errors: an order's end is a `CommandEnd`, which tells its status; a run's is `NoMemory`, after which no gear comes back, or
-//! how each worker ended, a `WorkerEnd`, and how the closing did.
+//! `serve_gears`, and `contain_gears` of gear_parts, clauses `ran` and `unasked`, for gears; `serve_part`, clauses `served`, `fit`
+//! and `parts`, for a part; `run_container` of ajp_container for containers. Read first: specs/Commands.antt; then
+//! specs/Runs.antt, over specs/Served.antt and client_session's specs/Sessions.antt; specs/Closings.antt, and gear_parts'
+//! specs/Containers.antt.
+//! Errors: an order's end is a `CommandEnd`, which tells its status; a run's is how each worker ended, a `WorkerEnd`, and how the
+//! closing did, or its gears, where memory was wanted before the workers.
 #![tactic(auto)]
 
 mod client;

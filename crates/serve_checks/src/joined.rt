@@ -69,7 +69,10 @@ fn serve_one<R: Net<Listener = TcpListener, Stream = TcpStream> + Threads + Wait
         format: &format,
         watch: None,
     };
-    let_go(serve_gears(rt, alloc, plan, gears)?);
+    match serve_gears(rt, alloc, plan, gears) {
+        Ok(run) => let_go(run),
+        Err(_) => return Err(NoMemory),
+    }
     Ok(())
 }
 

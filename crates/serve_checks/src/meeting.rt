@@ -207,10 +207,14 @@ fn over_links<L: Link + Shown + Drop + Send, R: Threads + Wait + Sync>(
         format: &format,
         watch: None,
     };
-    let run = serve_gears(rt, alloc, plan, gears)?;
-    let sent = sent_of(alloc, run.gears.as_slice());
-    let_go(run);
-    sent
+    match serve_gears(rt, alloc, plan, gears) {
+        Ok(run) => {
+            let sent = sent_of(alloc, run.gears.as_slice());
+            let_go(run);
+            sent
+        }
+        Err(_) => Err(NoMemory),
+    }
 }
 
 /// As `over_links`, with links that meet at a gate. The member answers the first once the second's client has its answer,

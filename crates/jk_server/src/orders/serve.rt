@@ -153,7 +153,10 @@ where
     };
     match serve_gears(rt, alloc, plan, gears) {
         Ok(ran) => settle(world, ran),
-        Err(NoMemory) => CommandEnd::Status(NO_MEMORY),
+        Err(gears) => {
+            give_back(world, gears);
+            CommandEnd::Status(NO_MEMORY)
+        }
     }
 }
 

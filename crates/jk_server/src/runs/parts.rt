@@ -1,10 +1,11 @@
 //! The workers of a connector's run: one for each gear, and what they leave.
-ghost use Rattle.std.specs.Prelude.{◌≡◌, ◌≤◌, true, vec_len, IfOk};
+ghost use Rattle.std.specs.Prelude.{◌≡◌, ◌≤◌, [], true, vec_capacity, vec_len, IfErr, IfOk};
 ghost use Rattle.std.specs.List.{All};
 ghost use Rattle.conn_pool.specs.Idle.{counts};
 ghost use Rattle.exchange.specs.Requests.{sizes_of};
 ghost use Rattle.lb_shared.specs.Locks.{lock_of};
 ghost use Rattle.site_mounts.specs.Sites.{stands_in};
+ghost use Rattle.jk_server.specs.Rooms.{HasRoomForEnds};
 ghost use Rattle.jk_server.specs.ServedGears.{IsRunOf};
 ghost use Rattle.jk_server.specs.RunTells.{run_tells};
 
@@ -44,7 +45,29 @@ pub struct SitePlan<'a> {
     pub watch: Option<WatchPlan>,
 }
 
-/// Serves by a worker for each gear, with one part of the share each. After `NoMemory` no door was asked.
+/// The memory of a run: the slots of its workers, and the room for what they leave.
+#[derive(Drop)]
+struct RunMemory<Q, L, V, G> {
+    slots: Vec<Q>,
+    room: Ran<L, V, G>,
+}
+
+/// Takes the memory for `count` workers.
+fn memory_for<Q: Drop, L, V: Drop, G: Drop>(
+    alloc: Global,
+    count: usize,
+) -> Result<RunMemory<Q, L, V, G>, NoMemory>
+    ensures slots { IfOk result (λ m. (m.slots.items ≡ []) × (count ≤ vec_capacity m.slots)) }
+    ensures room { IfOk result (λ m. HasRoomForEnds count m.room) }
+{
+    Ok(RunMemory {
+        slots: Vec::with_capacity(alloc, count)?,
+        room: room_for(alloc, count)?,
+    })
+}
+
+/// Serves by a worker for each gear, with one part of the share each. For want of memory the gears come back, and nothing was
+/// asked of them.
 pub(crate) fn work<
     's,
     'r,
@@ -63,7 +86,7 @@ pub(crate) fn work<
     common: &Common<'s, 'r, L, G, R>,
     share: Share<L>,
     gears: Vec<Gear<D, G, T, K, S, O>>,
-) -> Result<Ran<L, Leaving<L, ()>, Gear<D, G, T, K, S, O>>, NoMemory>
+) -> Result<Ran<L, Leaving<L, ()>, Gear<D, G, T, K, S, O>>, Vec<Gear<D, G, T, K, S, O>>>
 where
     D::L: Send,
     requires few { vec_len gears ≤ MAX_WORKERS }
@@ -74,12 +97,17 @@ where
     requires desk_sizes { L.sizes ≡ sizes_of plan.cfg.now.lbs }
     requires pool_sizes { counts common.now.pools.now ≡ sizes_of plan.cfg.now.lbs }
     requires format { common.now.format.now ≡ plan.format.now }
-    ensures { let told = run_tells D.Door T.Tape K.Clock D.L.Meanings S.Shelf O.Meanings D.L.may_wait in
+    ensures ran { let told = run_tells D.Door T.Tape K.Clock D.L.Meanings S.Shelf O.Meanings D.L.may_wait in
         IfOk result (IsRunOf told plan.entry (lock_of common.now.site.now) gears.items) }
+    ensures unasked { IfErr result (λ back. back.items ≡ gears.items) }
 {
-    let count = gears.len();
-    let mut slots = Vec::with_capacity(alloc, count)?;
-    let mut ran = room_for(alloc, count)?;
+    let memory = match memory_for(alloc, gears.len()) {
+        Ok(memory) => memory,
+        Err(NoMemory) => return Err(gears),
+    };
+    let RunMemory { slots, room } = memory;
+    let mut slots = slots;
+    let mut ran = room;
     fill_slots(alloc, common, share, gears, &mut slots);
     serve_slots(rt, alloc, plan.cfg, plan.map, &mut slots);
     empty_slots(slots, &mut ran);

@@ -1,12 +1,13 @@
 //! A connector's run: the balancers start, the workers serve, the desks are closed.
-ghost use Rattle.std.specs.Prelude.{◌≡◌, ◌<◌, ◌≤◌, map, true, vec_len, IfOk};
+ghost use Rattle.std.specs.Prelude.{◌≡◌, ◌<◌, ◌≤◌, map, true, vec_len, IfErr, IfOk};
 ghost use Rattle.std.specs.Option.{ForSome};
 ghost use Rattle.std.specs.List.{All};
 ghost use Rattle.site_mounts.specs.Sites.{stands_in};
+ghost use Rattle.gear_parts.specs.Starts.{AreStarted};
 ghost use Rattle.jk_server.specs.Runs.{RunsGears};
 ghost use Rattle.site_reports.specs.Starts.{AreStarts};
 ghost use Rattle.jk_server.specs.Started.{IsNewSite, AreReady, RunsStarted, pool_table};
-ghost use Rattle.jk_server.specs.RunTells.{run_tells};
+ghost use Rattle.jk_server.specs.RunTells.{gears_at, run_tells};
 ghost use Rattle.jk_server.specs.Watches.{watch_at};
 
 use crate::runs::closing::settle;
@@ -30,8 +31,9 @@ use std::thread::Threads;
 
 /// Serves the clients of a site by a worker for each gear, which writes the log of its requests where its gear has one. The
 /// balancers start with number 0 at the moment that the first gear's clock gives, and a journal is cut where it keeps as many
-/// entries as the plan says. After the run each is cut once more, in order, and
-/// its segment goes to the first gear's shelf.
+/// entries as the plan says. After the run each is cut once more, in order, and its segment goes to the first gear's shelf.
+///
+/// For want of memory before the workers the gears come back, and nothing was asked of them but that moment.
 pub fn serve_gears<
     D: Door + Drop + Send,
     G: Dial + Drop + Send,
@@ -45,7 +47,7 @@ pub fn serve_gears<
     alloc: Global,
     plan: SitePlan<'_>,
     gears: Vec<Gear<D, G, T, K, S, O>>,
-) -> Result<SiteRun<Brand, Gear<D, G, T, K, S, O>>, NoMemory>
+) -> Result<SiteRun<Brand, Gear<D, G, T, K, S, O>>, Vec<Gear<D, G, T, K, S, O>>>
 where
     D::L: Send,
     requires some { 0 < vec_len gears }
@@ -54,12 +56,14 @@ where
     requires idle { All (λ g. T.is_idle g.tape) gears.items }
     ensures ran { let told = run_tells D.Door T.Tape K.Clock D.L.Meanings S.Shelf O.Meanings D.L.may_wait in
         IfOk result (RunsGears told plan.entry gears.items) }
+    ensures unasked { let told = run_tells D.Door T.Tape K.Clock D.L.Meanings S.Shelf O.Meanings D.L.may_wait in
+        IfErr result (λ back. AreStarted (gears_at told gears.items) (gears_at told back.items)) }
 {
     let mut gears = gears;
     let at = first_moment(&mut gears);
     match new_site(alloc, plan, at, gears.len()) {
         Ok(new) => over_site::<Brand, D, G, T, K, S, O, R>(rt, alloc, plan, new, gears),
-        Err(NoMemory) => Err(NoMemory),
+        Err(NoMemory) => Err(gears),
     }
 }
 
@@ -122,7 +126,8 @@ fn pools_for<'r, C: Drop, R>(
     Ok(pools)
 }
 
-/// Serves over the Site with this name, by workers that share it and the pools of idle links.
+/// Serves over the Site with this name, by workers that share it and the pools of idle links. For want of memory before the
+/// workers the gears come back, and nothing was asked of them.
 fn over_site<
     'r,
     L: SiteName + Send + Sync,
@@ -139,17 +144,24 @@ fn over_site<
     plan: SitePlan<'_>,
     new: NewSite,
     gears: Vec<Gear<D, G, T, K, S, O>>,
-) -> Result<SiteRun<L, Gear<D, G, T, K, S, O>>, NoMemory>
+) -> Result<SiteRun<L, Gear<D, G, T, K, S, O>>, Vec<Gear<D, G, T, K, S, O>>>
 where
     D::L: Send,
     requires new { IsNewSite L.name L.parts L.starts L.sizes L.firsts L.cut_at plan.cut plan.cfg.now.lbs new }
     requires ready { AreReady T.is_idle L.parts plan.cfg.now plan.map.now (vec_len gears) gears.items }
     ensures ran { let told = run_tells D.Door T.Tape K.Clock D.L.Meanings S.Shelf O.Meanings D.L.may_wait in
         IfOk result (RunsStarted told plan.entry gears.items) }
+    ensures unasked { IfErr result (λ back. back.items ≡ gears.items) }
 {
     let watch = new.watch;
-    let pools = pools_for(rt, alloc, plan.cfg)?;
-    let (shared, share) = shared_site::<L, R>(rt, alloc, plan, new)?;
+    let pools = match pools_for(rt, alloc, plan.cfg) {
+        Ok(pools) => pools,
+        Err(NoMemory) => return Err(gears),
+    };
+    let (shared, share) = match shared_site::<L, R>(rt, alloc, plan, new) {
+        Ok(shared) => shared,
+        Err(NoMemory) => return Err(gears),
+    };
     let common = Common {
         site: &shared,
         pools: &pools,
@@ -159,7 +171,7 @@ where
     };
     match work(rt, alloc, plan, &common, share, gears) {
         Ok(ran) => Ok(settle(shared, ran)),
-        Err(NoMemory) => Err(NoMemory),
+        Err(gears) => Err(gears),
     }
 }
 

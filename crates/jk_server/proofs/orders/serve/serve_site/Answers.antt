@@ -1,10 +1,10 @@
 use Rattle.std.proofs.Common.{ap, inl, inr, refl, sym, ◌∙◌, arith}
 use Rattle.gear_parts.specs.Wants.{GearWants}
 use Rattle.jk_server.specs.Commands.{Ran}
-use Rattle.jk_server.proofs.CommandLaws.{lacks_log, some_asked, still_taken, wants_gears, works_err}
+use Rattle.jk_server.proofs.CommandLaws.{all_came_back, lacks_log, may_come_back, some_asked, still_taken, works_err}
 use Rattle.gear_parts.proofs.ListLaws.{few_so}
 use Rattle.gear_parts.proofs.WorldLaws.{then_back}
-use Rattle.jk_server.proofs.ReturnLaws.{few_returned}
+use Rattle.jk_server.proofs.ReturnLaws.{all_begun, few_returned}
 use Rattle.jk_server.proofs.orders.serve.serve_site.Goals as goal
 
 pub returns-in-Err : goal.returns-in-Err
@@ -37,12 +37,35 @@ serve_gears-requires-clause-stands g c κs within = c.args.site.now.stands
 pub serve_gears-requires-clause-idle : goal.serve_gears-requires-clause-idle
 serve_gears-requires-clause-idle g c κs within = c.in-Ok-log_gears.ensures.idle c.in-Ok.ensures.idle
 
+pub give_back-requires-clause-out : goal.give_back-requires-clause-out
+give_back-requires-clause-out g c κs within =
+    let begun = c.in-Ok-log_gears.gears in
+    let back = c.in-Err-serve_gears.gears in
+    let same = c.in-Ok-log_gears.ensures.same in
+    may_come_back _ _ c.in-Ok.gears.items back.items _
+    (still_taken _ _ _ c.in-Ok.gears.items c.in-Ok.ensures.taken same.0 same.1 same.2 (c.in-Ok-log_gears.ensures.steady refl)) back.ok.0
+    (all_begun _ begun.items back.items c.in-Err-serve_gears.ensures.unasked ∙ sym begun.ok.0 ∙ c.in-Ok-log_gears.ensures.len ∙ sym c.in-Ok.ensures.count ∙ c.in-Ok.gears.ok.0)
+
 pub returns-in-Err-serve_gears : goal.returns-in-Err-serve_gears
 returns-in-Err-serve_gears g c =
+    let begun = c.in-Ok-log_gears.gears in
+    let back = c.in-Err-serve_gears.gears in
     let same = c.in-Ok-log_gears.ensures.same in
     let calm = c.in-Ok-log_gears.ensures.steady refl in
-    rw (← c.get-threads.ensures.value) (wants_gears _ _ _ _ c.in-Ok.gears.items (still_taken _ _ _ c.in-Ok.gears.items c.in-Ok.ensures.taken same.0 same.1 same.2 calm)
-    (sym c.in-Ok.gears.ok.0 ∙ c.in-Ok.ensures.count) (calm ∙ c.in-Ok.ensures.steady refl))
+    Ran (inr (inl (record {
+      gears = c.in-Ok.gears.items;
+      begun = begun.items;
+      back = back.items;
+      count = sym c.in-Ok.gears.ok.0 ∙ c.in-Ok.ensures.count ∙ c.get-threads.ensures.value;
+      logged = rw (ap (λ (w : GearWants). w.log) c.gear_order-asked.ensures.wanted) at c.in-Ok-log_gears.ensures.given;
+      unasked = c.in-Err-serve_gears.ensures.unasked;
+      passed =
+          all_came_back _ _ _ c.in-Ok.gears.items back.items _
+          (still_taken _ _ _ c.in-Ok.gears.items c.in-Ok.ensures.taken same.0 same.1 same.2 calm)
+          c.give_back.ensures.came_back c.give_back.ensures.fewer back.ok.0 c.give_back.ensures.same.0 c.give_back.ensures.same.1;
+      calm = c.give_back.ensures.same.1 ∙ calm ∙ c.in-Ok.ensures.steady refl;
+      status = refl;
+    })))
 
 pub settle-requires-clause-out : goal.settle-requires-clause-out
 settle-requires-clause-out g c κs within =
@@ -56,7 +79,7 @@ returns-in-Ok-serve_gears g c =
     let ran = c.in-Ok-serve_gears.ran in
     let same = c.in-Ok-log_gears.ensures.same in
     let calm = c.in-Ok-log_gears.ensures.steady refl in
-    Ran (inr (record {
+    Ran (inr (inr (record {
       gears = c.in-Ok.gears.items;
       begun = c.in-Ok-log_gears.gears.items;
       left = ran.gears.items;
@@ -71,4 +94,4 @@ returns-in-Ok-serve_gears g c =
           then_back _ _ _ _ _ (still_taken _ _ _ c.in-Ok.gears.items c.in-Ok.ensures.taken same.0 same.1 same.2 calm)
           c.settle.ensures.given;
       status = c.settle.ensures.ended;
-    }))
+    })))

@@ -26,10 +26,10 @@ use Rattle.jk_server.proofs.ToldLaws.{lock_left, told_left, told_served}
 use Rattle.jk_server.proofs.runs.parts.work.Goals as goal
 
 pub fill_slots-requires-clause-none : goal.fill_slots-requires-clause-none
-fill_slots-requires-clause-none g c = λ κs within. c.in_ok-slots.ensures.items
+fill_slots-requires-clause-none g c = λ κs within. c.in-Ok.ensures.slots.0
 
 pub fill_slots-requires-clause-room : goal.fill_slots-requires-clause-room
-fill_slots-requires-clause-room g c = λ κs within. few_so _ _ _ (sym c.len-count.ensures) c.in_ok-slots.ensures.capacity
+fill_slots-requires-clause-room g c = λ κs within. few_so _ _ _ (sym c.len.ensures) c.in-Ok.ensures.slots.1
 
 pub fill_slots-requires-clause-parts : goal.fill_slots-requires-clause-parts
 fill_slots-requires-clause-parts g c = λ κs within. c.requires.parts
@@ -79,11 +79,11 @@ pub empty_slots-requires-clause-room : goal.empty_slots-requires-clause-room
 empty_slots-requires-clause-room g c = λ κs within.
     room_so _ _ _
     (c.serve_slots.new.slots.ok.0 ∙ as_many_done _ 0 c.fill_slots.new.slots.items c.serve_slots.new.slots.items c.serve_slots.ensures.served
-    ∙ as_long _ _ _ _ c.fill_slots.ensures.starts ∙ sym c.args.gears.ok.0 ∙ sym c.len-count.ensures)
-    c.in_ok-ran.ensures
+    ∙ as_long _ _ _ _ c.fill_slots.ensures.starts ∙ sym c.args.gears.ok.0 ∙ sym c.len.ensures)
+    c.in-Ok.ensures.room
 
-pub returns : goal.returns
-returns g c =
+pub returns-clause-ran : goal.returns-clause-ran
+returns-clause-ran g c =
     let at = side g.D.Door.coming g.D.Door.left g.D.Door.faults in
     let lock = lock_of c.args.common.now.site.now in
     let sizes = g.L.SiteName.sizes in

@@ -11,7 +11,7 @@ use Rattle.jk_server.proofs.runs.serve.over_site.Goals as goal
 pub invariant_of-common : goal.invariant_of-common
 invariant_of-common g c = record {
   every = c.args.new.every;
-  ends = ap (λ ps. counts ps) c.in_ok-pools.ensures ∙ table_counts c.args.plan.cfg.now.lbs ∙ table_ends c.args.plan.cfg.now.lbs;
+  ends = ap (λ ps. counts ps) c.in-Ok.ensures ∙ table_counts c.args.plan.cfg.now.lbs ∙ table_ends c.args.plan.cfg.now.lbs;
 }
 
 pub work-requires-clause-few : goal.work-requires-clause-few
@@ -24,37 +24,35 @@ pub work-requires-clause-idle : goal.work-requires-clause-idle
 work-requires-clause-idle g c = λ κs within. c.requires.ready.idle
 
 pub work-requires-clause-parts : goal.work-requires-clause-parts
-work-requires-clause-parts g c = λ κs within. c.in_ok-shared.ensures.0 ∙ c.requires.ready.each
+work-requires-clause-parts g c = λ κs within. c.in-Ok-shared_site.ensures.0 ∙ c.requires.ready.each
 
 pub work-requires-clause-amount : goal.work-requires-clause-amount
-work-requires-clause-amount g c = λ κs within. c.in_ok-shared.ensures.1
+work-requires-clause-amount g c = λ κs within. c.in-Ok-shared_site.ensures.1
 
 pub work-requires-clause-desk_sizes : goal.work-requires-clause-desk_sizes
 work-requires-clause-desk_sizes g c = λ κs within. c.requires.new.sized
 
 pub work-requires-clause-pool_sizes : goal.work-requires-clause-pool_sizes
-work-requires-clause-pool_sizes g c = λ κs within. ap (λ ps. counts ps) c.in_ok-pools.ensures ∙ table_counts c.args.plan.cfg.now.lbs
+work-requires-clause-pool_sizes g c = λ κs within. ap (λ ps. counts ps) c.in-Ok.ensures ∙ table_counts c.args.plan.cfg.now.lbs
 
 pub work-requires-clause-format : goal.work-requires-clause-format
 work-requires-clause-format g c = λ κs within. refl
 
 pub settle-requires-clause-some : goal.settle-requires-clause-some
 settle-requires-clause-some g c = (
-  some_so _ _ (c.in-Ok.ran.gears.ok.0 ∙ c.in-Ok.ensures.each.0 ∙ sym c.args.gears.ok.0) c.requires.ready.some,
-  some_so _ _ (c.in-Ok.ensures.each.1 ∙ sym c.args.gears.ok.0) c.requires.ready.some,
+  some_so _ _ (c.in-Ok-work.ran.gears.ok.0 ∙ c.in-Ok-work.ensures.ran.each.0 ∙ sym c.args.gears.ok.0) c.requires.ready.some,
+  some_so _ _ (c.in-Ok-work.ensures.ran.each.1 ∙ sym c.args.gears.ok.0) c.requires.ready.some,
 )
 
 pub settle-requires-clause-whole : goal.settle-requires-clause-whole
-settle-requires-clause-whole g c = c.in-Ok.ensures.whole ∙ sym c.args.gears.ok.0 ∙ sym c.requires.ready.each
+settle-requires-clause-whole g c = c.in-Ok-work.ensures.ran.whole ∙ sym c.args.gears.ok.0 ∙ sym c.requires.ready.each
 
 pub settle-requires-clause-here : goal.settle-requires-clause-here
-settle-requires-clause-here g c = c.in-Ok.ensures.here
+settle-requires-clause-here g c = c.in-Ok-work.ensures.ran.here
 
-pub returns-in-Ok : goal.returns-in-Ok
-returns-in-Ok g c = record {
-  ran =
+pub returns-in-Ok-work-clause-ran : goal.returns-in-Ok-work-clause-ran
+returns-in-Ok-work-clause-ran g c =
       run_done (visit c.args.plan.cfg.now c.args.plan.map.now) g.D.L.Meanings g.S.Shelf.shelved (logging g.S.Shelf.shelved g.S.Shelf.faults g.O.Meanings g.D.L.Link.may_wait)
-      c.args.plan.format.now c.args.plan.cfg.now.lbs _ _ _ _ _ _ _ c.in-Ok.ensures.served c.settle.ensures.workers
+      c.args.plan.format.now c.args.plan.cfg.now.lbs _ _ _ _ _ _ _ c.in-Ok-work.ensures.ran.served c.settle.ensures.workers
       (closes_said (side g.D.Door.coming g.D.Door.left g.D.Door.faults) g.T.Tape.talks g.K.Clock.answers g.S.Shelf.shelved g.S.Shelf.faults
-      c.args.plan.cfg.now.lbs _ _ _ _ _ _ _ _ _ c.requires.new.sized c.requires.new.numbered c.requires.new.begun c.requires.new.books c.settle.ensures.closed);
-}
+      c.args.plan.cfg.now.lbs _ _ _ _ _ _ _ _ _ c.requires.new.sized c.requires.new.numbered c.requires.new.begun c.requires.new.books c.settle.ensures.closed)

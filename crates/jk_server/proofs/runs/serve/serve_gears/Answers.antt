@@ -4,7 +4,7 @@ use Rattle.jk_io.specs.Doors.{side}
 use Rattle.gear_parts.specs.Gears.{gear_side}
 use Rattle.jk_server.specs.RunTells.{logging}
 use Rattle.gear_parts.proofs.ListLaws.{few_so, some_so}
-use Rattle.jk_server.proofs.StartLaws.{ok_weaker, started_run}
+use Rattle.jk_server.proofs.StartLaws.{err_started, ok_weaker, started_run}
 use Rattle.jk_server.proofs.runs.serve.serve_gears.Goals as goal
 
 pub over_site-requires-clause-new : goal.over_site-requires-clause-new
@@ -38,4 +38,7 @@ returns-in-Ok g c = record {
       (gear_side (side g.D.Door.coming g.D.Door.left g.D.Door.faults) g.T.Tape.talks g.K.Clock.answers) c.args.gears.items
       c.args.gears.items c.first_moment-at.new.gears.items c.first_moment-at.new.gears.items run.gears.items run.workers run.closing refl refl
       c.first_moment-at.ensures.started is);
+  unasked =
+      err_started (gear_side (side g.D.Door.coming g.D.Door.left g.D.Door.faults) g.T.Tape.talks g.K.Clock.answers) (λ v. v.items) c.args.gears.items
+      c.first_moment-at.new.gears.items c.over_site.result c.first_moment-at.ensures.started c.over_site.ensures.unasked;
 }
