@@ -35,9 +35,9 @@ first_kept {D} {G} {T} {K} {S} {O} at talks answers Kept (g ∷ left) (g' ∷ ba
 )
 
 -- The Books were those of the Site.
-pub last_kept : {S : Type 0} (shelved : S → Option (List (ℕ × Segment))) (lbs : List Lb) (seats : List SeatNote) (books : List Journal) (old new : S)
-    → AreEnded lbs seats books → AddsCuts shelved books old new → Shelves shelved lbs seats books old new
-last_kept shelved lbs seats books old new ended cuts = (cuts.0, (ended, cuts.1), cuts.2)
+pub last_kept : {S : Type 0} (shelved : S → Option (List (ℕ × Segment))) (lbs : List Lb) (moment : ℕ) (seats : List SeatNote) (books : List Journal) (old new : S)
+    → AreEnded lbs moment seats books → AddsCuts shelved books old new → Shelves shelved lbs moment seats books old new
+last_kept shelved lbs moment seats books old new ended cuts = (cuts.0, (ended, cuts.1), cuts.2)
 
 pub first_weaker : {D G T K S O : Type 0} (P Q : S → S → Type 0) (left back : List (Gear D G T K S O)) → ((x y : S) → P x y → Q x y) → ToFirst P left back → ToFirst Q left back
 first_weaker P Q [] back then is = absurd is
@@ -47,12 +47,11 @@ first_weaker P Q (x ∷ left) (y ∷ back) then is = (then x.shelf y.shelf is.0,
 -- The Books at the end, told of the configuration.
 ended_said : (lbs : List Lb) (sizes firsts : List ℕ) (starts : List Opening) (seats : List SeatNote) (at : ℕ) (begun books : List Journal)
     → sizes ≡ sizes_of lbs → firsts ≡ firsts_of lbs → starts ≡ starts_of begun → AreStarts lbs at 0 begun
-    → AreClosed sizes firsts starts seats books → AreEnded lbs seats books
+    → AreClosed sizes firsts starts seats books → AreEnded lbs at seats books
 ended_said lbs sizes firsts starts seats at begun books same_sizes same_firsts same_starts begins closed = record {
   sited =
       subst (λ (ns : List ℕ). AreSited ns (firsts_of lbs) books) same_sizes
       (subst (λ (ns : List ℕ). AreSited sizes ns books) same_firsts closed.sited);
-  at = at;
   begun = begun;
   starts = begins;
   closed = subst (λ (os : List Opening). IsOneHistory os seats books) same_starts closed.history;
@@ -73,7 +72,7 @@ kept_said at talks answers Kept Said Ended Are left back are say keeps = (
 
 discord_said : (lbs : List Lb) (sizes firsts : List ℕ) (starts : List Opening) (seats : List SeatNote) (moment : ℕ) (begun : List Journal) (d : DiscordNote)
     → sizes ≡ sizes_of lbs → firsts ≡ firsts_of lbs → starts ≡ starts_of begun → AreStarts lbs moment 0 begun → (at : IsDiscordAt sizes firsts starts seats d)
-    → IsDiscordOf lbs seats at.2.differs.books d
+    → IsDiscordOf lbs moment seats at.2.differs.books d
 discord_said lbs sizes firsts starts seats moment begun d same_sizes same_firsts same_starts begins at = record {
   ended = ended_said lbs sizes firsts starts seats moment begun at.2.differs.books same_sizes same_firsts same_starts begins
       (record { sited = at.2.differs.sited; history = at.2.whole });
@@ -87,14 +86,14 @@ pub closes_said : {D G T K S O L C : Type 0} (at : D → DoorSide C) (talks : T 
     (left back : List (Gear D G T K S O)) (end : Closing L)
     → sizes ≡ sizes_of lbs → firsts ≡ firsts_of lbs → starts ≡ starts_of begun → AreStarts lbs moment 0 begun
     → EndsSo shelved faults sizes firsts starts seats left back end
-    → (books : List Journal) × Closes shelved faults lbs seats books (map (gear_side at talks answers) left) (map (gear_side at talks answers) back) end
+    → (books : List Journal) × Closes shelved faults lbs moment seats books (map (gear_side at talks answers) left) (map (gear_side at talks answers) back) end
 closes_said at talks answers shelved faults lbs sizes firsts starts seats moment begun left back closing.Kept same_sizes same_firsts same_starts begins ends =
-    kept_said at talks answers (AddsCuts shelved) (Shelves shelved lbs seats) (AreClosed sizes firsts starts seats) (AreEnded lbs seats) left back
+    kept_said at talks answers (AddsCuts shelved) (Shelves shelved lbs moment seats) (AreClosed sizes firsts starts seats) (AreEnded lbs moment seats) left back
     (λ books closed. ended_said lbs sizes firsts starts seats moment begun books same_sizes same_firsts same_starts begins closed)
-    (λ books x y ended cuts. last_kept shelved lbs seats books x y ended cuts) ends
+    (λ books x y ended cuts. last_kept shelved lbs moment seats books x y ended cuts) ends
 closes_said {S = S} at talks answers shelved faults lbs sizes firsts starts seats moment begun left back closing.ShelfFault same_sizes same_firsts same_starts begins ends =
     kept_said at talks answers (λ (books : List Journal) (x y : S). AddsFront shelved books x y × Rose (faults x) (faults y))
-    (λ (books : List Journal) (x y : S). ShelvesFront shelved lbs seats books x y × Rose (faults x) (faults y)) (AreClosed sizes firsts starts seats) (AreEnded lbs seats) left back
+    (λ (books : List Journal) (x y : S). ShelvesFront shelved lbs moment seats books x y × Rose (faults x) (faults y)) (AreClosed sizes firsts starts seats) (AreEnded lbs moment seats) left back
     (λ books closed. ended_said lbs sizes firsts starts seats moment begun books same_sizes same_firsts same_starts begins closed)
     (λ books x y ended kept. ((ended, kept.0), kept.1)) ends
 closes_said {D} {G} {T} {K} {S} {O} at talks answers shelved faults lbs sizes firsts starts seats moment begun left back (closing.Differs d) same_sizes same_firsts same_starts begins ends = (
@@ -107,7 +106,7 @@ closes_said {D} {G} {T} {K} {S} {O} at talks answers shelved faults lbs sizes fi
 closes_said {D} {G} {T} {K} {S} {O} at talks answers shelved faults lbs sizes firsts starts seats moment begun left back closing.NoMemory same_sizes same_firsts same_starts begins (inl none) =
     ([], inl (ap (λ (gs : List (Gear D G T K S O)). map (gear_side at talks answers) gs) none))
 closes_said at talks answers shelved faults lbs sizes firsts starts seats moment begun left back closing.NoMemory same_sizes same_firsts same_starts begins (inr keeps) =
-    let said = kept_said at talks answers (AddsFront shelved) (ShelvesFront shelved lbs seats) (AreClosed sizes firsts starts seats) (AreEnded lbs seats) left back
+    let said = kept_said at talks answers (AddsFront shelved) (ShelvesFront shelved lbs moment seats) (AreClosed sizes firsts starts seats) (AreEnded lbs moment seats) left back
     (λ books closed. ended_said lbs sizes firsts starts seats moment begun books same_sizes same_firsts same_starts begins closed)
     (λ books x y ended front. (ended, front)) keeps in
     (said.0, inr said.1)

@@ -99,12 +99,11 @@ legal_from starts log books history sound lb o at =
       | inr past ↦ absurd (omega (arith, past.0, history.count, slice_get_within starts lb o at))
     ]
 
-one_list : {C S Y : Type 0} (lbs : List Lb) (seats : List SeatNote) (workers : List (List (Run C S Y))) (books : List Journal) → AreEnded lbs seats books
+one_list : {C S Y : Type 0} (lbs : List Lb) (at : ℕ) (seats : List SeatNote) (workers : List (List (Run C S Y))) (books : List Journal) → AreEnded lbs at seats books
     → AllZip (λ (s : SeatNote) (runs : List (Run C S Y)). own_in s.number s.seen ≡ noted (told_in runs)) seats workers
     → AllZip (λ (s : SeatNote) (runs : List (Run C S Y)). MetNoStray runs → HaveReturned (told_in runs)) seats workers
-    → IsOneList lbs workers books
-one_list lbs seats workers books ended own back = record {
-  at = ended.at;
+    → IsOneList lbs at workers books
+one_list lbs at seats workers books ended own back = record {
   begun = ended.begun;
   starts = ended.starts;
   log = ended.closed.closed.log;
@@ -118,31 +117,31 @@ one_list lbs seats workers books ended own back = record {
 }
 
 -- The Books of a closing that took them.
-first_ends : {C S O : Type 0} (lbs : List Lb) (seats : List SeatNote) (books : List Journal) (Kept : S → S → Type 0) (left back : List (GearSide C S O))
-    → ((x y : S) → Kept x y → AreEnded lbs seats books) → KeepsFirst Kept left back → AreEnded lbs seats books
-first_ends lbs seats books Kept (first ∷ rest) (first' ∷ rest') say keeps = say first.shelf first'.shelf keeps.0
-first_ends lbs seats books Kept [] back say keeps = absurd keeps
-first_ends lbs seats books Kept (first ∷ rest) [] say keeps = absurd keeps
+first_ends : {C S O : Type 0} (lbs : List Lb) (at : ℕ) (seats : List SeatNote) (books : List Journal) (Kept : S → S → Type 0) (left back : List (GearSide C S O))
+    → ((x y : S) → Kept x y → AreEnded lbs at seats books) → KeepsFirst Kept left back → AreEnded lbs at seats books
+first_ends lbs at seats books Kept (first ∷ rest) (first' ∷ rest') say keeps = say first.shelf first'.shelf keeps.0
+first_ends lbs at seats books Kept [] back say keeps = absurd keeps
+first_ends lbs at seats books Kept (first ∷ rest) [] say keeps = absurd keeps
 
-ends_with : {C S O L : Type 0} (shelved : S → Option (List (ℕ × Segment))) (faults : S → ℕ) (lbs : List Lb) (seats : List SeatNote) (books : List Journal) (left back : List (GearSide C S O)) (end : Closing L)
-    → Closes shelved faults lbs seats books left back end → HasBooks end → AreEnded lbs seats books
-ends_with shelved faults lbs seats books left back closing.Kept closes has =
-    first_ends lbs seats books (Shelves shelved lbs seats books) left back (λ x y kept. kept.1.0) closes
-ends_with {S = S} shelved faults lbs seats books left back closing.ShelfFault closes has =
-    first_ends lbs seats books (λ (old new : S). ShelvesFront shelved lbs seats books old new × Rose (faults old) (faults new)) left back (λ x y kept. kept.0.0) closes
-ends_with shelved faults lbs seats books left back (closing.Differs d) closes has = closes.0.ended
-ends_with shelved faults lbs seats books left back closing.NoMemory closes has = absurd has
+ends_with : {C S O L : Type 0} (shelved : S → Option (List (ℕ × Segment))) (faults : S → ℕ) (lbs : List Lb) (at : ℕ) (seats : List SeatNote) (books : List Journal) (left back : List (GearSide C S O)) (end : Closing L)
+    → Closes shelved faults lbs at seats books left back end → HasBooks end → AreEnded lbs at seats books
+ends_with shelved faults lbs at seats books left back closing.Kept closes has =
+    first_ends lbs at seats books (Shelves shelved lbs at seats books) left back (λ x y kept. kept.1.0) closes
+ends_with {S = S} shelved faults lbs at seats books left back closing.ShelfFault closes has =
+    first_ends lbs at seats books (λ (old new : S). ShelvesFront shelved lbs at seats books old new × Rose (faults old) (faults new)) left back (λ x y kept. kept.0.0) closes
+ends_with shelved faults lbs at seats books left back (closing.Differs d) closes has = closes.0.ended
+ends_with shelved faults lbs at seats books left back closing.NoMemory closes has = absurd has
 
 -- The headline.
-pub headline_of : {C S O L X : Type 0} (visits : ℕ → Peer → Visit) (told : Ghosts C X) (of : WorkerTells S (Option (LogState O))) (format : List FormatPart) (shelved : S → Option (List (ℕ × Segment))) (faults : S → ℕ) (lbs : List Lb)
+pub headline_of : {C S O L X : Type 0} (visits : ℕ → Peer → Visit) (told : Ghosts C X) (of : WorkerTells S (Option (LogState O))) (format : List FormatPart) (shelved : S → Option (List (ℕ × Segment))) (faults : S → ℕ) (lbs : List Lb) (at : ℕ)
     (begun left back : List (GearSide C S O)) (seats : List SeatNote) (books : List Journal) (ends : List (WorkerEnd L)) (end : Closing L)
-    → AreServedGears visits told of format 0 begun left seats ends → Closes shelved faults lbs seats books left back end → IsHeadline visits told of lbs ends end books
-headline_of visits told of format shelved faults lbs begun left back seats books ends end served closes =
+    → AreServedGears visits told of format 0 begun left seats ends → Closes shelved faults lbs at seats books left back end → IsHeadline visits told of lbs at ends end books
+headline_of visits told of format shelved faults lbs at begun left back seats books ends end served closes =
     let all = have_served visits told of format 0 begun left seats ends served in
     record {
       workers = all.workers;
       each = all.each;
       sessions = all.sessions;
       strays = all.strays;
-      journal = λ has. one_list lbs seats all.workers books (ends_with shelved faults lbs seats books left back end closes has) all.own all.back;
+      journal = λ has. one_list lbs at seats all.workers books (ends_with shelved faults lbs at seats books left back end closes has) all.own all.back;
     }

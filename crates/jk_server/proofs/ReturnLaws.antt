@@ -50,12 +50,12 @@ all_kept Kept (first ∷ rest) (first' ∷ rest') k = ap (λ (l : List _). lengt
 all_kept Kept [] back k = absurd k
 all_kept Kept (first ∷ rest) [] k = absurd k
 
-few_closed : {G C S O L : Type 0} (at : G → GearSide C S O) (shelved : S → Option (List (ℕ × Segment))) (faults : S → ℕ) (lbs : List Lb) (seats : List SeatNote) (books : List Journal) (left : List (GearSide C S O)) (back : List G) (closed : Closing L)
-    → Closes shelved faults lbs seats books left (map at back) closed → length (returned closed back) ≤ length left
-few_closed at shelved faults lbs seats books left back closing.Kept c = let n = all_kept _ left (map at back) c in omega (arith, length-map back at)
-few_closed at shelved faults lbs seats books left back closing.ShelfFault c = let n = all_kept _ left (map at back) c in omega (arith, length-map back at)
-few_closed at shelved faults lbs seats books left back (closing.Differs d) c = let n = ap length c.1 in omega (arith, length-map back at)
-few_closed at shelved faults lbs seats books left back closing.NoMemory c = omega arith
+few_closed : {G C S O L : Type 0} (at : G → GearSide C S O) (shelved : S → Option (List (ℕ × Segment))) (faults : S → ℕ) (lbs : List Lb) (moment : ℕ) (seats : List SeatNote) (books : List Journal) (left : List (GearSide C S O)) (back : List G) (closed : Closing L)
+    → Closes shelved faults lbs moment seats books left (map at back) closed → length (returned closed back) ≤ length left
+few_closed at shelved faults lbs moment seats books left back closing.Kept c = let n = all_kept _ left (map at back) c in omega (arith, length-map back at)
+few_closed at shelved faults lbs moment seats books left back closing.ShelfFault c = let n = all_kept _ left (map at back) c in omega (arith, length-map back at)
+few_closed at shelved faults lbs moment seats books left back (closing.Differs d) c = let n = ap length c.1 in omega (arith, length-map back at)
+few_closed at shelved faults lbs moment seats books left back closing.NoMemory c = omega arith
 
 -- no more gears come back of a run than it had
 pub few_returned : {G C S O L X : Type 0} (at : G → GearSide C S O) (visits : ℕ → Peer → Visit) (told : Ghosts C X) (shelved : S → Option (List (ℕ × Segment))) (of : WorkerTells S (Option (LogState O))) (format : List FormatPart) (lbs : List Lb) (gears back : List G) (ends : List (WorkerEnd L)) (closed : Closing L)
@@ -63,7 +63,7 @@ pub few_returned : {G C S O L X : Type 0} (at : G → GearSide C S O) (visits : 
 few_returned at visits told shelved of format lbs gears back ends closed run =
     let a = all_started _ _ run.started in
     let b = all_left visits told of format 0 _ _ _ ends run.served in
-    let c = few_closed at shelved of.shelf_faults lbs run.seats run.books run.left back closed run.closed in
+    let c = few_closed at shelved of.shelf_faults lbs run.at run.seats run.books run.left back closed run.closed in
     omega (arith, length-map gears at)
 
 same_count : {C S O : Type 0} (before back : List (GearSide C S O)) → SameButDoors before back → length back ≡ length before

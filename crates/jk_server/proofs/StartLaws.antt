@@ -30,11 +30,12 @@ use Rattle.jk_server.specs.Closings.{Closes}
 use Rattle.jk_server.specs.Runs.{AreServedGears, IsNew, IsSiteRun, IsServedGear, WorksWith}
 use Rattle.lb_shared.specs.Histories.{SeatNote, noted, own_in}
 use Rattle.lb_shared.specs.SharedDesks.{SharedState}
-use Rattle.gear_parts.specs.Starts.{AreStarted}
+use Rattle.gear_parts.specs.Starts.{AreStarted, GivesFirst}
 use Rattle.jk_server.specs.ServedGears.{IsBeginning, start_side}
 use Rattle.jk_server.specs.Started.{IsStartedRun, pool_table}
 use Rattle.jk_server.specs.declared.runs.ends.Closing.{Closing}
 use Rattle.gear_parts.proofs.ListLaws.{all_of_map, map_map}
+use Rattle.gear_parts.proofs.StartLaws.{gives_back}
 use Rattle.jk_server.proofs.HeadlineLaws.{headline_of}
 
 -- A log that begins is written to what it was given, and isn't broken.
@@ -95,11 +96,11 @@ pub one_part : (was now : Option ℕ) (n : ℕ) → now ≡ Some n → now ≡ w
 one_part was now n is same one = cc
 
 -- The run from its start: its workers, each with its end, and its closing.
-pub run_done : {C S O L X : Type 0} → (visits : ℕ → Peer → Visit) (told : Ghosts C X) (shelved : S → Option (List (ℕ × Segment))) (of : WorkerTells S (Option (LogState O))) (format : List FormatPart) (lbs : List Lb)
+pub run_done : {C S O L X : Type 0} → (visits : ℕ → Peer → Visit) (told : Ghosts C X) (shelved : S → Option (List (ℕ × Segment))) (of : WorkerTells S (Option (LogState O))) (format : List FormatPart) (lbs : List Lb) (moment : ℕ)
     (begun left back : List (GearSide C S O)) (seats : List SeatNote) (ends ends' : List (WorkerEnd L)) (closing : Closing L)
-    → AreServedGears visits told of format 0 begun left seats ends → ends' ≡ ends → (books : List Journal) × Closes shelved of.shelf_faults lbs seats books left back closing
-    → IsStartedRun visits told shelved of format lbs begun back ends' closing
-run_done {L = L} visits told shelved of format lbs begun left back seats ends ends' closing served same closed = record {
+    → AreServedGears visits told of format 0 begun left seats ends → ends' ≡ ends → (books : List Journal) × Closes shelved of.shelf_faults lbs moment seats books left back closing
+    → IsStartedRun visits told shelved of format lbs moment begun back ends' closing
+run_done {L = L} visits told shelved of format lbs moment begun left back seats ends ends' closing served same closed = record {
   left = left;
   seats = seats;
   served = subst (λ (es : List (WorkerEnd L)). AreServedGears visits told of format 0 begun left seats es) (sym same) served;
@@ -115,22 +116,24 @@ served_gear visit told of format before after seat from to end served first fres
     record { from = from; to = to; first = first; fresh = fresh; last = last; begun = begun; left = left; served = served; own = own }
 
 -- The run, from before its start.
-pub started_run : {D G T K S O C L X : Type 0} → (visits : ℕ → Peer → Visit) (told : Ghosts C X) (shelved : S → Option (List (ℕ × Segment))) (of : WorkerTells S (Option (LogState O))) (format : List FormatPart) (lbs : List Lb)
+pub started_run : {D G T K S O C L X : Type 0} → (visits : ℕ → Peer → Visit) (told : Ghosts C X) (shelved : S → Option (List (ℕ × Segment))) (of : WorkerTells S (Option (LogState O))) (format : List FormatPart) (lbs : List Lb) (moment : ℕ)
     (at : Gear D G T K S O → GearSide C S O) (gears lent new begun back : List (Gear D G T K S O)) (ends : List (WorkerEnd L)) (closing : Closing L)
-    → lent ≡ gears → begun ≡ new → AreStarted (map at lent) (map at new)
-    → IsStartedRun visits told shelved of format lbs (map at begun) (map at back) ends closing
+    → lent ≡ gears → begun ≡ new → AreStarted (map at lent) (map at new) → GivesFirst moment (map at lent) (map at new)
+    → IsStartedRun visits told shelved of format lbs moment (map at begun) (map at back) ends closing
     → IsSiteRun visits told shelved of format lbs (map at gears) (map at back) ends closing
-started_run {D} {G} {T} {K} {S} {O} visits told shelved of format lbs at gears lent new begun back ends closing same written started run = record {
+started_run {D} {G} {T} {K} {S} {O} visits told shelved of format lbs moment at gears lent new begun back ends closing same written started given run = record {
   begun = map at begun;
   left = run.left;
   started =
       subst (λ (gs : List (Gear D G T K S O)). AreStarted (map at gs) (map at begun)) same
       (subst (λ (gs : List (Gear D G T K S O)). AreStarted (map at lent) (map at gs)) (sym written) started);
+  at = moment;
+  given = gives_back moment at gears lent new begun same written given;
   seats = run.seats;
   served = run.served;
   books = run.books;
   closed = run.closed;
-  headline = headline_of visits told of format shelved of.shelf_faults lbs (map at begun) run.left (map at back) run.seats run.books ends closing run.served run.closed;
+  headline = headline_of visits told of format shelved of.shelf_faults lbs moment (map at begun) run.left (map at back) run.seats run.books ends closing run.served run.closed;
 }
 
 pub ok_weaker : {T E : Type 0} (P Q : T → Type 0) (r : Result T E) → IfOk r P → ((x : T) → P x → Q x) → IfOk r Q

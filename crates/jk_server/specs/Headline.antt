@@ -49,8 +49,7 @@ AreLegalFrom starts log = (lb : ℕ) (o : Opening) → slice_get starts lb ≡ S
 -- The balancers began with number 0 at the moment `at`. Each worker had a desk of another number, and of that number the list
 -- has exactly what the worker's sessions were told, in order. It has no other entries: each has the number of one of these desks.
 -- Unless a session of the worker ended by a stray, each ticket that a Select of that number gave out came back by a later Return.
-pub record IsOneList {C S Y : Type 0} (lbs : List Lb) (workers : List (List (Run C S Y))) (books : List Journal) : Type 0 where
-  pub at : ℕ
+pub record IsOneList {C S Y : Type 0} (lbs : List Lb) (at : ℕ) (workers : List (List (Run C S Y))) (books : List Journal) : Type 0 where
   pub begun : List Journal
   pub starts : AreStarts lbs at 0 begun
   pub log : List (ℕ × (ℕ × Entry))
@@ -86,13 +85,13 @@ HasBooks (closing.Differs d) = Unit {0}
 HasBooks closing.NoMemory = ⊥
 
 -- The headline: the sessions of each worker, in order, with the stray that a worker's end names, and the one list that tells the
--- same as they were told and made the Books that the closing took what they are.
-pub record IsHeadline {C S Y L X : Type 0} (visits : ℕ → Peer → Visit) (told : Ghosts C X) (of : WorkerTells S Y) (lbs : List Lb) (ends : List (WorkerEnd L)) (closing : Closing L) (books : List Journal) : Type 0 where
+-- same as they were told, from the moment `at` on, and made the Books that the closing took what they are.
+pub record IsHeadline {C S Y L X : Type 0} (visits : ℕ → Peer → Visit) (told : Ghosts C X) (of : WorkerTells S Y) (lbs : List Lb) (at : ℕ) (ends : List (WorkerEnd L)) (closing : Closing L) (books : List Journal) : Type 0 where
   pub workers : List (List (Run C S Y))
   pub each : length workers ≡ length ends
   pub sessions : AreSessions visits told of 0 workers
   pub strays : AllZip NamesItsStray workers ends
-  pub journal : HasBooks closing → IsOneList lbs workers books
+  pub journal : HasBooks closing → IsOneList lbs at workers books
 
 -- ---- by the seats that the desks left
 
@@ -100,11 +99,11 @@ pub record IsHeadline {C S Y L X : Type 0} (visits : ℕ → Peer → Visit) (to
 abbrev pub firsts_of : List Lb → List ℕ
 firsts_of lbs = map (λ lb. 0) lbs
 
--- These are the Books of the balancers of a configuration at the end of a run whose workers had desks at these seats. One
--- history made the Books what they are; it has of each desk just the entries that the desk has seen as its own, and no others.
-pub record AreEnded (lbs : List Lb) (seats : List SeatNote) (books : List Journal) : Type 0 where
+-- These are the Books of the balancers of a configuration, which began at this moment, at the end of a run whose workers had desks
+-- at these seats. One history made the Books what they are; it has of each desk just the entries that the desk has seen as its
+-- own, and no others.
+pub record AreEnded (lbs : List Lb) (at : ℕ) (seats : List SeatNote) (books : List Journal) : Type 0 where
   pub sited : AreSited (sizes_of lbs) (firsts_of lbs) books
-  pub at : ℕ
   pub begun : List Journal
   pub starts : AreStarts lbs at 0 begun
   pub closed : IsOneHistory (starts_of begun) seats books

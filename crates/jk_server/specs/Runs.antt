@@ -12,7 +12,7 @@ use Rattle.request_log.specs.declared.format.Part.{Part as FormatPart}
 use Rattle.request_log.specs.LogStates.{LogState}
 use Rattle.gear_parts.specs.GearLogs.{new_log, sink_of}
 use Rattle.gear_parts.specs.Gears.{GearSide}
-use Rattle.gear_parts.specs.Starts.{AreStarted}
+use Rattle.gear_parts.specs.Starts.{AreStarted, GivesFirst}
 use Rattle.gear_parts.specs.declared.world.Gear.{Gear}
 use Rattle.jk_server.specs.Headline.{IsHeadline, told_in}
 use Rattle.jk_server.specs.Served.{IsServed}
@@ -60,16 +60,18 @@ AreServedGears visits told of format number (b ∷ before) (a ∷ after) (s ∷ 
 AreServedGears visits told of format number _ _ _ _ = ⊥
 
 -- The gears as they were handed in and as they came back, how each worker ended, and how the closing did with the Books that it
--- took; and what the run comes to, by these very Books.
+-- took; and what the run comes to, by these very Books. The balancers began at the moment `at` that the first gear's clock gave.
 pub record IsSiteRun {C S O L X : Type 0} (visits : ℕ → Peer → Visit) (told : Ghosts C X) (shelved : S → Option (List (ℕ × Segment))) (of : WorkerTells S (Option (LogState O))) (format : List FormatPart) (lbs : List Lb) (before back : List (GearSide C S O)) (ends : List (WorkerEnd L)) (closing : Closing L) : Type 0 where
   pub begun : List (GearSide C S O)
   pub left : List (GearSide C S O)
   pub started : AreStarted before begun
+  pub at : ℕ
+  pub given : GivesFirst at before begun
   pub seats : List SeatNote
   pub served : AreServedGears visits told of format 0 begun left seats ends
   pub books : List Journal
-  pub closed : Closes shelved of.shelf_faults lbs seats books left back closing
-  pub headline : IsHeadline visits told of lbs ends closing books
+  pub closed : Closes shelved of.shelf_faults lbs at seats books left back closing
+  pub headline : IsHeadline visits told of lbs at ends closing books
 
 -- `IsSiteRun` for the gears that were handed in, and those that the run gave back.
 abbrev pub RunsGears : {D G T K S O L C X : Type 0} → RunTells D T K S O C X → SitePlan → List (Gear D G T K S O) → SiteRun L (Gear D G T K S O) → Type 0

@@ -34,15 +34,14 @@ abbrev pub pool_table : List Lb → List (List ℕ)
 pool_table lbs = map (λ lb. map (λ m. m.pool) lb.book.members) lbs
 
 -- A Site that isn't open yet has this name, whose values are those of these balancers and of this cut, and a Book for each
--- balancer.
+-- balancer, which starts at the Site's moment.
 pub record IsNewSite (name parts : ℕ) (starts : List Opening) (sizes firsts : List ℕ) (cut_at cut : ℕ) (lbs : List Lb) (new : NewSite) : Type 0 where
   pub named : new.blank.name ≡ name
   pub whole : new.blank.parts ≡ parts
   pub sized : sizes ≡ sizes_of lbs
   pub numbered : firsts ≡ firsts_of lbs
   pub cut_so : cut_at ≡ cut
-  pub at : ℕ
-  pub books : AreStarts lbs at 0 new.books
+  pub books : AreStarts lbs new.at 0 new.books
   pub begun : starts ≡ starts_of new.books
 
 -- These gears can work, a worker with each, and each has one of the parts.
@@ -53,15 +52,15 @@ pub record AreReady {D G T K S O : Type 0} (is_idle : T → Type 0) (parts : ℕ
   pub stands : stands_in cfg rules ≡ true
   pub idle : All (λ g. is_idle g.tape) gears
 
--- The workers served with the gears as they were at the start, and the closing ended so.
-pub record IsStartedRun {C S O L X : Type 0} (visits : ℕ → Peer → Visit) (told : Ghosts C X) (shelved : S → Option (List (ℕ × Segment))) (of : WorkerTells S (Option (LogState O))) (format : List FormatPart) (lbs : List Lb) (begun back : List (GearSide C S O)) (ends : List (WorkerEnd L)) (closing : Closing L) : Type 0 where
+-- The workers served with the gears as they were at the start, the balancers from this moment on, and the closing ended so.
+pub record IsStartedRun {C S O L X : Type 0} (visits : ℕ → Peer → Visit) (told : Ghosts C X) (shelved : S → Option (List (ℕ × Segment))) (of : WorkerTells S (Option (LogState O))) (format : List FormatPart) (lbs : List Lb) (at : ℕ) (begun back : List (GearSide C S O)) (ends : List (WorkerEnd L)) (closing : Closing L) : Type 0 where
   pub left : List (GearSide C S O)
   pub seats : List SeatNote
   pub served : AreServedGears visits told of format 0 begun left seats ends
   pub books : List Journal
-  pub closed : Closes shelved of.shelf_faults lbs seats books left back closing
+  pub closed : Closes shelved of.shelf_faults lbs at seats books left back closing
 
 -- `IsStartedRun` for the gears as they were at the start, and those that the run gave back.
-abbrev pub RunsStarted : {D G T K S O L C X : Type 0} → RunTells D T K S O C X → SitePlan → List (Gear D G T K S O) → SiteRun L (Gear D G T K S O) → Type 0
-RunsStarted told plan gears run =
-    IsStartedRun (visit plan.cfg.now plan.map.now) told.link told.shelved told.keeps plan.format.now plan.cfg.now.lbs (gears_at told gears) (gears_at told run.gears.items) run.workers run.closing
+abbrev pub RunsStarted : {D G T K S O L C X : Type 0} → RunTells D T K S O C X → SitePlan → (at : ℕ) → List (Gear D G T K S O) → SiteRun L (Gear D G T K S O) → Type 0
+RunsStarted told plan at gears run =
+    IsStartedRun (visit plan.cfg.now plan.map.now) told.link told.shelved told.keeps plan.format.now plan.cfg.now.lbs at (gears_at told gears) (gears_at told run.gears.items) run.workers run.closing

@@ -1,8 +1,5 @@
-//! A Site that isn't open yet, and how its workers look after idle links.
-ghost use Rattle.std.specs.Prelude.{◌<◌};
-ghost use Rattle.std.specs.Option.{ForSome};
+//! A Site that isn't open yet, and the moment at which its balancers start.
 
-use conn_pool::Watch;
 use lb_book::BookList;
 use std::sync::ledger::Blank;
 
@@ -10,8 +7,8 @@ use std::sync::ledger::Blank;
 #[derive(Drop)]
 pub(crate) struct NewSite {
     pub(crate) blank: Blank,
+    /// The Book of each balancer.
     pub(crate) books: BookList,
-    /// When each worker looks at the idle links, if it does.
-    pub(crate) watch: Option<Watch>,
-    pub(crate) ghost every: { ForSome watch (λ w. 0 < w.every) },
+    /// The moment at which they start.
+    pub(crate) at: u64,
 }

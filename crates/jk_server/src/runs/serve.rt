@@ -67,16 +67,16 @@ where
     }
 }
 
-/// A Site for this many workers that isn't open yet.
+/// A Site for this many workers that isn't open yet, whose balancers start at this moment.
 fn new_site(alloc: Global, plan: SitePlan<'_>, at: u64, workers: usize) -> Result<NewSite, NoMemory>
     ensures parts { IfOk result (λ new. new.blank.parts ≡ workers) }
-    ensures books { IfOk result (λ new. AreStarts plan.entry.cfg.now.lbs at 0 new.books) }
-    ensures watch { IfOk result (λ new. new.watch ≡ watch_at plan.entry.watch at) }
+    ensures at { IfOk result (λ new. new.at ≡ at) }
+    ensures books { IfOk result (λ new. AreStarts plan.entry.cfg.now.lbs new.at 0 new.books) }
 {
     Ok(NewSite {
         blank: Blank::new(workers as u64),
         books: books_of(alloc, plan.cfg.lbs.as_slice(), at, 0)?,
-        watch: watch_at(plan.watch, at),
+        at,
     })
 }
 
@@ -150,10 +150,10 @@ where
     requires new { IsNewSite L.name L.parts L.starts L.sizes L.firsts L.cut_at plan.cut plan.cfg.now.lbs new }
     requires ready { AreReady T.is_idle L.parts plan.cfg.now plan.map.now (vec_len gears) gears.items }
     ensures ran { let told = run_tells D.Door T.Tape K.Clock D.L.Meanings S.Shelf O.Meanings D.L.may_wait in
-        IfOk result (RunsStarted told plan.entry gears.items) }
+        IfOk result (RunsStarted told plan.entry new.at gears.items) }
     ensures unasked { IfErr result (λ back. back.items ≡ gears.items) }
 {
-    let watch = new.watch;
+    let watch = watch_at(plan.watch, new.at);
     let pools = match pools_for(rt, alloc, plan.cfg) {
         Ok(pools) => pools,
         Err(NoMemory) => return Err(gears),
@@ -188,7 +188,7 @@ fn shared_site<'r, L: SiteName, R>(
     let NewSite {
         blank,
         books,
-        watch: _,
+        at: _,
     } = new;
     let (site, share) = Site::<L>::open(blank, books);
     let shared = SharedSite::new(rt, alloc, site, plan.cut)?;

@@ -10,7 +10,7 @@ use Rattle.jk_server.proofs.runs.serve.over_site.Goals as goal
 
 pub invariant_of-common : goal.invariant_of-common
 invariant_of-common g c = record {
-  every = c.args.new.every;
+  every = c.watch_at-watch.ensures.every;
   ends = ap (λ ps. counts ps) c.in-Ok.ensures ∙ table_counts c.args.plan.cfg.now.lbs ∙ table_ends c.args.plan.cfg.now.lbs;
 }
 
@@ -52,7 +52,7 @@ settle-requires-clause-here g c = c.in-Ok-work.ensures.ran.here
 
 pub returns-in-Ok-work-clause-ran : goal.returns-in-Ok-work-clause-ran
 returns-in-Ok-work-clause-ran g c =
-      run_done (visit c.args.plan.cfg.now c.args.plan.map.now) g.D.L.Meanings g.S.Shelf.shelved (logging g.S.Shelf.shelved g.S.Shelf.faults g.O.Meanings g.D.L.Link.may_wait)
-      c.args.plan.format.now c.args.plan.cfg.now.lbs _ _ _ _ _ _ _ c.in-Ok-work.ensures.ran.served c.settle.ensures.workers
-      (closes_said (side g.D.Door.coming g.D.Door.left g.D.Door.faults) g.T.Tape.talks g.K.Clock.answers g.S.Shelf.shelved g.S.Shelf.faults
-      c.args.plan.cfg.now.lbs _ _ _ _ _ _ _ _ _ c.requires.new.sized c.requires.new.numbered c.requires.new.begun c.requires.new.books c.settle.ensures.closed)
+    run_done (visit c.args.plan.cfg.now c.args.plan.map.now) g.D.L.Meanings g.S.Shelf.shelved (logging g.S.Shelf.shelved g.S.Shelf.faults g.O.Meanings g.D.L.Link.may_wait)
+    c.args.plan.format.now c.args.plan.cfg.now.lbs c.args.new.at _ _ _ _ _ _ _ c.in-Ok-work.ensures.ran.served c.settle.ensures.workers
+    (closes_said (side g.D.Door.coming g.D.Door.left g.D.Door.faults) g.T.Tape.talks g.K.Clock.answers g.S.Shelf.shelved g.S.Shelf.faults
+    c.args.plan.cfg.now.lbs _ _ _ _ c.args.new.at _ _ _ _ c.requires.new.sized c.requires.new.numbered c.requires.new.begun c.requires.new.books c.settle.ensures.closed)

@@ -14,7 +14,6 @@ over_site-requires-clause-new g c = λ κs within. record {
   sized = refl;
   numbered = refl;
   cut_so = refl;
-  at = c.first_moment-at.result;
   books = c.in-Ok.ensures.books;
   begun = refl;
 }
@@ -34,10 +33,10 @@ returns-in-Ok g c = record {
       ok_weaker _ _ c.over_site.result c.over_site.ensures.ran
       (λ run is.
       started_run (visit c.args.plan.cfg.now c.args.plan.map.now) g.D.L.Meanings g.S.Shelf.shelved (logging g.S.Shelf.shelved g.S.Shelf.faults g.O.Meanings g.D.L.Link.may_wait)
-      c.args.plan.format.now c.args.plan.cfg.now.lbs
+      c.args.plan.format.now c.args.plan.cfg.now.lbs c.in-Ok.new.at
       (gear_side (side g.D.Door.coming g.D.Door.left g.D.Door.faults) g.T.Tape.talks g.K.Clock.answers) c.args.gears.items
       c.args.gears.items c.first_moment-at.new.gears.items c.first_moment-at.new.gears.items run.gears.items run.workers run.closing refl refl
-      c.first_moment-at.ensures.started is);
+      c.first_moment-at.ensures.started (rw c.in-Ok.ensures.at c.first_moment-at.ensures.given) is);
   unasked =
       err_started (gear_side (side g.D.Door.coming g.D.Door.left g.D.Door.faults) g.T.Tape.talks g.K.Clock.answers) (λ v. v.items) c.args.gears.items
       c.first_moment-at.new.gears.items c.over_site.result c.first_moment-at.ensures.started c.over_site.ensures.unasked;

@@ -15,26 +15,26 @@ open-site-requires-clause-parts g c = c.requires.whole
 
 pub open-site-requires-clause-sizes : goal.open-site-requires-clause-sizes
 open-site-requires-clause-sizes g c =
-    starts_sizes c.args.plan.cfg.now.lbs c.requires.at 0 c.args.new.books c.requires.books ∙ sym c.requires.sized
+    starts_sizes c.args.plan.cfg.now.lbs c.args.new.at 0 c.args.new.books c.requires.books ∙ sym c.requires.sized
 
 pub open-site-requires-clause-firsts : goal.open-site-requires-clause-firsts
 open-site-requires-clause-firsts g c =
-    new_nexts c.args.plan.cfg.now.lbs c.requires.at c.args.new.books c.requires.books ∙ sym c.requires.numbered
+    new_nexts c.args.plan.cfg.now.lbs c.args.new.at c.args.new.books c.requires.books ∙ sym c.requires.numbered
 
 pub open-site-requires-clause-few : goal.open-site-requires-clause-few
 open-site-requires-clause-few g c =
-    omega (arith, new_count c.args.plan.cfg.now.lbs c.requires.at c.args.new.books c.requires.books, c.args.plan.cfg.now.few)
+    omega (arith, new_count c.args.plan.cfg.now.lbs c.args.new.at c.args.new.books c.requires.books, c.args.plan.cfg.now.few)
 
 pub open-site-requires-clause-modern : goal.open-site-requires-clause-modern
-open-site-requires-clause-modern g c = starts_modern c.args.plan.cfg.now.lbs c.requires.at 0 c.args.new.books c.requires.books
+open-site-requires-clause-modern g c = starts_modern c.args.plan.cfg.now.lbs c.args.new.at 0 c.args.new.books c.requires.books
 
 pub open-site-requires-clause-fresh : goal.open-site-requires-clause-fresh
-open-site-requires-clause-fresh g c = new_added c.args.plan.cfg.now.lbs c.requires.at c.args.new.books c.requires.books
+open-site-requires-clause-fresh g c = new_added c.args.plan.cfg.now.lbs c.args.new.at c.args.new.books c.requires.books
 
 pub new-requires-clause-uncut : goal.new-requires-clause-uncut
 new-requires-clause-uncut g c = λ above lb.
     subst (λ (books : List Journal). At books lb (λ b. b.entries ≡ [])) (sym c.open-site.ensures.books)
-    (new_empty c.args.plan.cfg.now.lbs c.requires.at c.args.new.books c.requires.books lb)
+    (new_empty c.args.plan.cfg.now.lbs c.args.new.at c.args.new.books c.requires.books lb)
 
 pub new-requires-clause-named : goal.new-requires-clause-named
 new-requires-clause-named g c = sym c.requires.cut_so
@@ -45,4 +45,4 @@ new-requires-clause-starts g c = ap (λ (bs : List Journal). starts_of bs) c.ope
 pub new-requires-clause-fresh : goal.new-requires-clause-fresh
 new-requires-clause-fresh g c =
     subst (λ (bs : List Journal). All (λ b. (b.entries ≡ []) × (b.added ≡ 0)) bs) (sym c.open-site.ensures.books)
-    (new_fresh c.args.plan.cfg.now.lbs c.requires.at c.args.new.books c.requires.books)
+    (new_fresh c.args.plan.cfg.now.lbs c.args.new.at c.args.new.books c.requires.books)
