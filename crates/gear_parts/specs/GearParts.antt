@@ -27,9 +27,9 @@ but_door gear = record { dial = gear.dial; tape = gear.tape; clock = gear.clock;
 
 -- ---- a connector's gear
 
--- a desk, whatever its number at its lock
+-- a desk, whatever its number at its lock and the openings behind it
 abbrev pub unnumbered : {S : Type 0} → SharedState S → SharedState S
-unnumbered d = record d { seat = record d.seat { number = 0 } }
+unnumbered d = record d { seat = record d.seat { number = 0; starts = [] } }
 
 -- what a worker has when it begins, whatever its desk's number at the lock
 pub record Start (D G T K S O C : Type 0) : Type 0 where
@@ -53,7 +53,7 @@ start_of lock sizes pools watch format gear = record {
     watch = watch;
   };
   clock = gear.clock;
-  desk = record { desk = shared_desk sizes 1 [] [] 0 0 0 0 None; shelf = gear.shelf; forgotten = 0; wants = 0; met = None; seat = record { lock = lock; number = 0; seen = [] } };
+  desk = record { desk = shared_desk sizes 1 [] [] 0 0 0 0 None; shelf = gear.shelf; forgotten = 0; wants = 0; met = None; seat = record { lock = lock; starts = []; number = 0; seen = []; steps = [] } };
   log = new_log format gear.log;
 }
 

@@ -8,7 +8,7 @@ use Rattle.lb_model.specs.declared.journal.Entry.{Entry}
 use Rattle.lb_model.specs.declared.opening.Opening.{Opening}
 use Rattle.lb_book.specs.declared.receipt.Receipt.{Receipt}
 use Rattle.lb_shared.specs.declared.view.View.{View}
-use Rattle.lb_shared.specs.Histories.{SeatSees, gained_in, number_of, own_count, own_in, seat_note, seen_of}
+use Rattle.lb_shared.specs.Histories.{SeatSees, Step, gained_in, number_of, own_count, own_in, seat_note, seen_of}
 use Rattle.lb_shared.proofs.GoneLaws.{Adds}
 use Rattle.lb_shared.proofs.LeftLaws.{drop_front, own_sees}
 
@@ -26,9 +26,9 @@ gained_count rs rs' more grown =
     )
 
 -- The seat has seen as its own as many as there are, where it has seen what the desk was told.
-pub count_sees : {S : Type 0} (starts : List Opening) (lock lock' : TableId) (old new : Me (Option S) (View (ℕ × Entry))) (rs rs' : List Receipt) (a a' f : ℕ)
+pub count_sees : {S : Type 0} (starts : List Opening) (lock lock' : TableId) (old new : Me (Option S) (View Step)) (rs rs' : List Receipt) (a a' f : ℕ)
     → SeatSees starts old new (gained_in rs rs') → Adds rs rs' → a ≡ length rs + f → a' ≡ length rs' + f
-    → own_count (seat_note lock old) ≡ a → own_count (seat_note lock' new) ≡ a'
+    → own_count (seat_note starts lock old) ≡ a → own_count (seat_note starts lock' new) ≡ a'
 count_sees starts lock lock' old new rs rs' a a' f sees adds was is counted =
     let own : own_in (number_of new.0) (seen_of new.0) ≡ own_in (number_of old.0) (seen_of old.0) ++ gained_in rs rs' =
     ap (λ (n : ℕ). own_in n (seen_of new.0)) sees.number ∙ own_sees starts (number_of old.0) (seen_of old.0) (seen_of new.0) (gained_in rs rs') sees.sees in
@@ -43,17 +43,17 @@ count_sees starts lock lock' old new rs rs' a a' f sees adds was is counted =
     )
 
 -- A look.
-pub count_looked : {S : Type 0} (starts : List Opening) (lock lock' : TableId) (old new : Me (Option S) (View (ℕ × Entry))) (a a' : ℕ)
-    → SeatSees starts old new [] → a' ≡ a → own_count (seat_note lock old) ≡ a → own_count (seat_note lock' new) ≡ a'
+pub count_looked : {S : Type 0} (starts : List Opening) (lock lock' : TableId) (old new : Me (Option S) (View Step)) (a a' : ℕ)
+    → SeatSees starts old new [] → a' ≡ a → own_count (seat_note starts lock old) ≡ a → own_count (seat_note starts lock' new) ≡ a'
 count_looked starts lock lock' old new a a' sees same counted =
     let own : own_in (number_of new.0) (seen_of new.0) ≡ own_in (number_of old.0) (seen_of old.0) ++ [] =
     ap (λ (n : ℕ). own_in n (seen_of new.0)) sees.number ∙ own_sees starts (number_of old.0) (seen_of old.0) (seen_of new.0) [] sees.sees in
     omega (arith, ap (λ (es : List (ℕ × Entry)). length es) own, length-append (own_in (number_of old.0) (seen_of old.0)) [], same, counted)
 
 -- One receipt more, or none, by the length of the list and the share's amount.
-pub count_back : {S : Type 0} (starts : List Opening) (lock lock' : TableId) (old new : Me (Option S) (View (ℕ × Entry))) (rs rs' : List Receipt) (a a' k : ℕ)
+pub count_back : {S : Type 0} (starts : List Opening) (lock lock' : TableId) (old new : Me (Option S) (View Step)) (rs rs' : List Receipt) (a a' k : ℕ)
     → SeatSees starts old new (gained_in rs rs') → length rs' ≡ length rs + k → a' ≡ a + k
-    → own_count (seat_note lock old) ≡ a → own_count (seat_note lock' new) ≡ a'
+    → own_count (seat_note starts lock old) ≡ a → own_count (seat_note starts lock' new) ≡ a'
 count_back starts lock lock' old new rs rs' a a' k sees longer more counted =
     let own : own_in (number_of new.0) (seen_of new.0) ≡ own_in (number_of old.0) (seen_of old.0) ++ gained_in rs rs' =
     ap (λ (n : ℕ). own_in n (seen_of new.0)) sees.number ∙ own_sees starts (number_of old.0) (seen_of old.0) (seen_of new.0) (gained_in rs rs') sees.sees in
@@ -69,9 +69,9 @@ count_back starts lock lock' old new rs rs' a a' k sees longer more counted =
     )
 
 -- By what the hold answered.
-pub count_returned : {S E : Type 0} (starts : List Opening) (lock lock' : TableId) (old new : Me (Option S) (View (ℕ × Entry))) (rs rs' : List Receipt) (a a' : ℕ) (r : Result (Unit {0}) E)
+pub count_returned : {S E : Type 0} (starts : List Opening) (lock lock' : TableId) (old new : Me (Option S) (View Step)) (rs rs' : List Receipt) (a a' : ℕ) (r : Result (Unit {0}) E)
     → SeatSees starts old new (gained_in rs rs') → OnOk r (length rs' ≡ length rs + 1) → OnOk r (a' ≡ a + 1) → OnErr r ((rs' ≡ rs) × (a' ≡ a))
-    → own_count (seat_note lock old) ≡ a → own_count (seat_note lock' new) ≡ a'
+    → own_count (seat_note starts lock old) ≡ a → own_count (seat_note starts lock' new) ≡ a'
 count_returned starts lock lock' old new rs rs' a a' (Ok x) sees one more none counted = count_back starts lock lock' old new rs rs' a a' 1 sees one more counted
 count_returned starts lock lock' old new rs rs' a a' (Err e) sees one more none counted =
     count_back starts lock lock' old new rs rs' a a' 0 sees (omega (arith, ap (λ (xs : List Receipt). length xs) none.0)) (omega (arith, none.1)) counted

@@ -1,6 +1,6 @@
 -- The one history of a Site after a hold: grown by the hold's entries, and whole where a Book was cut.
-use Rattle.std.proofs.Common.{◌≡◌, ◌≢◌, ℕ, ◌+◌, ◌-◌, ◌<◌, Bool, cond, List, [], ◌∷◌, ◌++◌, length, map, drop, Option, Some, None, refl, sym, ap, ◌∙◌, subst, inl, inr, arith, append-nil, length-append, length-set, eq-eqb, ne_eqb, eqb-true}
-use Rattle.std.specs.Prelude.{◌==◌, IfErr, IfOk, OnErr, OnOk, Result, Ok, Err, option_map, slice_get, slice_set}
+use Rattle.std.proofs.Common.{◌≡◌, ◌≢◌, ℕ, ◌+◌, ◌-◌, ◌<◌, Bool, cond, List, [], ◌∷◌, ◌++◌, length, map, drop, Option, Some, refl, sym, ap, ◌∙◌, subst, inl, inr, arith, append-nil, length-append, length-set, eq-eqb, ne_eqb, eqb-true}
+use Rattle.std.specs.Prelude.{◌==◌, IfOk, Result, Ok, Err, option_map, slice_get, slice_set}
 use Rattle.std.specs.List.{All, filter}
 use Rattle.std.proofs.lemmas.Bool.{cases_Bool}
 use Rattle.std.proofs.lemmas.List.{length-map}
@@ -9,46 +9,39 @@ use Rattle.std.proofs.lemmas.List.Elements.{All-append, All-head, All-map, All-n
 use mathlib.Core.List.{map-append}
 use Rattle.lb_model.specs.Legal.{IsLegal}
 use Rattle.lb_model.specs.Present.{IsPresent}
-use Rattle.lb_model.specs.declared.ask.Ask.{Ask}
-use Rattle.lb_model.specs.declared.change.Command.{Command}
 use Rattle.lb_model.specs.declared.journal.Entry.{Entry}
-use Rattle.lb_model.specs.declared.journal.Outcome.{Outcome}
-use Rattle.lb_model.specs.declared.refusal.AdminError.{AdminError}
-use Rattle.lb_model.specs.declared.refusal.RoomError.{RoomError}
 use Rattle.lb_model.specs.declared.opening.Opening.{Opening}
 use Rattle.lb_model.specs.declared.segment.Segment.{Segment}
-use Rattle.lb_book.specs.Desks.{IsOwn, LeaseNote}
+use Rattle.lb_book.specs.Desks.{IsOwn}
 use Rattle.lb_book.specs.Journal.{IsSound, Journal, past_of}
 use Rattle.lb_book.specs.ToldBooks.{grown_by}
-use Rattle.lb_book.specs.declared.desk.Choice.{Choice}
-use Rattle.lb_book.specs.declared.desk.Occasion.{Occasion}
 use Rattle.lb_book.specs.declared.receipt.Receipt.{Receipt}
 use Rattle.lb_book.proofs.ToldLaws.{get-set, get-set_other, some_is}
 use Rattle.lb_shared.specs.Seats.{by_seat}
 use Rattle.lb_book.specs.Histories.{IsHistoryOf}
 use Rattle.lb_book.proofs.HistoryLaws.{begins_here, cut_of, grown_of, whole_present}
 use Rattle.lb_shared.specs.Histories.{IsPresentOf, IsSiteHistory, entries_in, entries_of, gained_in, last_in, noted, starts_of}
-use Rattle.lb_shared.specs.Holds.{CutChooses, CutCommands, CutDenies, CutMeets, CutRefuses, CutReturns, CutsFirst, HeldState, HoldGains, held}
-use Rattle.lb_shared.specs.Notes.{MarkNote, ViewNote}
+use Rattle.lb_shared.specs.Holds.{HeldState, HoldGains}
+use Rattle.lb_shared.specs.Notes.{ViewNote}
 use Rattle.lb_shared.specs.Shelves.{CutsAt}
 use Rattle.lb_shared.specs.Sites.{AreSited, At}
 use Rattle.lb_shared.proofs.LockLaws.{sited_within}
 use Rattle.lb_shared.proofs.SiteLaws.{at_put, differs}
 
-entries-append : (lb : ℕ) (log new : List (ℕ × (ℕ × Entry))) → entries_of lb (log ++ new) ≡ entries_of lb log ++ entries_of lb new
+pub entries-append : (lb : ℕ) (log new : List (ℕ × (ℕ × Entry))) → entries_of lb (log ++ new) ≡ entries_of lb log ++ entries_of lb new
 entries-append lb log new =
     ap (λ (xs : List (ℕ × (ℕ × Entry))). map (λ (x : ℕ × (ℕ × Entry)). x.1.1) xs) (filter-append (λ (x : ℕ × (ℕ × Entry)). x.1.0 == lb) log new)
     ∙ map-append (λ (x : ℕ × (ℕ × Entry)). x.1.1) (filter (λ (x : ℕ × (ℕ × Entry)). x.1.0 == lb) log) (filter (λ (x : ℕ × (ℕ × Entry)). x.1.0 == lb) new)
 
 -- Entries of one balancer are all its own, and none of another's.
-entries-here : (lb n session at : ℕ) (gained : List Receipt) → All (IsOwn lb session at) gained → entries_of lb (by_seat n (noted gained)) ≡ map (λ r. r.entry) gained
+pub entries-here : (lb n session at : ℕ) (gained : List Receipt) → All (IsOwn lb session at) gained → entries_of lb (by_seat n (noted gained)) ≡ map (λ r. r.entry) gained
 entries-here lb n session at [] own = refl
 entries-here lb n session at (r ∷ rs) own =
     let is : r.lb ≡ lb = (All-head (IsOwn lb session at) r rs own).balancer in
     ap (λ (b : Bool). map (λ (x : ℕ × (ℕ × Entry)). x.1.1) (cond b ((n, (r.lb, r.entry)) ∷ filter (λ (x : ℕ × (ℕ × Entry)). x.1.0 == lb) (by_seat n (noted rs))) (filter (λ (x : ℕ × (ℕ × Entry)). x.1.0 == lb) (by_seat n (noted rs))))) (eq-eqb r.lb lb is)
     ∙ ap (λ (xs : List Entry). r.entry ∷ xs) (entries-here lb n session at rs (All-tail (IsOwn lb session at) r rs own))
 
-entries-elsewhere : (k lb n session at : ℕ) (gained : List Receipt) → k ≢ lb → All (IsOwn lb session at) gained → entries_of k (by_seat n (noted gained)) ≡ []
+pub entries-elsewhere : (k lb n session at : ℕ) (gained : List Receipt) → k ≢ lb → All (IsOwn lb session at) gained → entries_of k (by_seat n (noted gained)) ≡ []
 entries-elsewhere k lb n session at [] other own = refl
 entries-elsewhere k lb n session at (r ∷ rs) other own =
     let is : r.lb ≡ lb = (All-head (IsOwn lb session at) r rs own).balancer in
@@ -56,7 +49,7 @@ entries-elsewhere k lb n session at (r ∷ rs) other own =
     ∙ entries-elsewhere k lb n session at rs other (All-tail (IsOwn lb session at) r rs own)
 
 -- A Book that was put at a place: what is found there is it, and elsewhere all is as before.
-put_cases : (P : ℕ → Journal → Type 0) (books : List Journal) (lb : ℕ) (old new : Journal) → slice_get books lb ≡ Some old → P lb new
+pub put_cases : (P : ℕ → Journal → Type 0) (books : List Journal) (lb : ℕ) (old new : Journal) → slice_get books lb ≡ Some old → P lb new
     → ((k : ℕ) (b : Journal) → k ≢ lb → slice_get books k ≡ Some b → P k b) → (k : ℕ) (b : Journal) → slice_get (slice_set books lb new) k ≡ Some b → P k b
 put_cases P books lb old new here is others k b found =
     elim (cases_Bool (lb == k)) [
@@ -148,15 +141,15 @@ drop_left [] ys = refl
 drop_left (x ∷ xs) ys = drop_left xs ys
 
 -- The receipts added to a list are those that stand after it.
-gained-is : (old new gained : List Receipt) → new ≡ old ++ gained → gained_in old new ≡ noted gained
+pub gained-is : (old new gained : List Receipt) → new ≡ old ++ gained → gained_in old new ≡ noted gained
 gained-is old new gained is = ap (λ (xs : List Receipt). noted (drop (length old) xs)) is ∙ ap (λ (xs : List Receipt). noted xs) (drop_left old gained)
 
-gained-none : (xs : List Receipt) → drop (length xs) xs ≡ []
+pub gained-none : (xs : List Receipt) → drop (length xs) xs ≡ []
 gained-none [] = refl
 gained-none (x ∷ xs) = gained-none xs
 
 -- The Book that is cut is sound, as its segment is legal.
-cut_sound : (books mid : List Journal) (lb : ℕ) (cut : ℕ × Segment) → CutsAt books mid lb cut → At books lb IsSound
+pub cut_sound : (books mid : List Journal) (lb : ℕ) (cut : ℕ × Segment) → CutsAt books mid lb cut → At books lb IsSound
 cut_sound books mid lb cut cuts b found =
     let same : cuts.book ≡ b = some_is cuts.book b (sym cuts.found ∙ found) in
     let legal : IsLegal cuts.book.rules cuts.book.opening cuts.book.entries =
@@ -164,16 +157,6 @@ cut_sound books mid lb cut cuts b found =
     (subst (λ (o : Opening). IsLegal cuts.book.rules o cut.1.entries) cuts.whole.opening
     (subst (λ (v : ℕ). IsLegal v cut.1.opening cut.1.entries) cuts.whole.rules cuts.legal)) in
     subst (λ (x : Journal). IsSound x) same legal
-
-first_history : (starts : List Opening) (log : List (ℕ × (ℕ × Entry))) (books mid : List Journal) (lb : ℕ) (cut : Option (ℕ × Segment)) → CutsFirst books mid lb cut
-    → IsSiteHistory starts log books → IsSiteHistory starts log mid
-first_history starts log books mid lb None same was = subst (λ (bs : List Journal). IsSiteHistory starts log bs) (sym same) was
-first_history starts log books mid lb (Some segment) cuts was = cut_history starts log books mid lb segment cuts (cut_sound books mid lb segment cuts) was
-
--- The Books after a hold, whose entries are the last ones of the history, and the last ones that the Book of this balancer keeps.
-pub record Grew (starts : List Opening) (n : ℕ) (log : List (ℕ × (ℕ × Entry))) (old new : List Receipt) (lb : ℕ) (books : List Journal) : Type 0 where
-  pub history : IsSiteHistory starts (log ++ by_seat n (gained_in old new)) books
-  pub last : last_in books lb (length new - length old) ≡ gained_in old new
 
 -- The last entries of a Book that took some.
 last_left : (xs ys : List Entry) (k : ℕ) → k ≡ length ys → drop (length (xs ++ ys) - k) (xs ++ ys) ≡ ys
@@ -193,7 +176,7 @@ noted_own lb session at (r ∷ rs) own =
     ap (λ (k : ℕ). (k, r.entry) ∷ map (λ e. (lb, e)) (map (λ r. r.entry) rs)) (sym is)
     ∙ ap (λ (xs : List (ℕ × Entry)). (r.lb, r.entry) ∷ xs) (noted_own lb session at rs (All-tail (IsOwn lb session at) r rs own))
 
-last-grown : (old new : HeldState) (lb session at count : ℕ) (gained : List Receipt) → HoldGains old new lb session at gained → count ≡ length gained
+pub last-grown : (old new : HeldState) (lb session at count : ℕ) (gained : List Receipt) → HoldGains old new lb session at gained → count ≡ length gained
     → last_in new.books lb count ≡ noted gained
 last-grown old new lb session at count gained gains is =
     let there : slice_get new.books lb ≡ Some (grown_by gains.book gained) =
@@ -203,46 +186,14 @@ last-grown old new lb session at count gained gains is =
     ∙ ap (λ (es : List Entry). map (λ e. (lb, e)) es) (last_left gains.book.entries (map (λ r. r.entry) gained) count (is ∙ sym same))
     ∙ noted_own lb session at gained gains.own
 
-gained-count : (old new gained : List Receipt) → new ≡ old ++ gained → length new - length old ≡ length gained
+pub gained-count : (old new gained : List Receipt) → new ≡ old ++ gained → length new - length old ≡ length gained
 gained-count old new gained is =
     let long : length new ≡ length (old ++ gained) = ap (λ (xs : List Receipt). length xs) is in
     let parts : length (old ++ gained) ≡ length old + length gained = length-append old gained in
     omega (arith, long, parts)
 
--- A hold that cut first if due, and then added these entries.
-hold_history : (starts : List Opening) (n : ℕ) (log : List (ℕ × (ℕ × Entry))) (sizes firsts : List ℕ) (books mid : List Journal) (new : HeldState) (receipts : List Receipt) (amount lb session at : ℕ)
-    (cut : Option (ℕ × Segment)) (gained : List Receipt) → lb < length sizes → CutsFirst books mid lb cut → AreSited sizes firsts mid
-    → HoldGains (held mid receipts amount) new lb session at gained → IsSiteHistory starts log books → Grew starts n log receipts new.receipts lb new.books
-hold_history starts n log sizes firsts books mid new receipts amount lb session at cut gained within first are gains was =
-    let between : IsSiteHistory starts log mid = first_history starts log books mid lb cut first was in
-    let known : lb < length starts = subst (λ (k : ℕ). lb < k) between.count (sited_within sizes firsts mid lb are within) in
-    let same : gained_in receipts new.receipts ≡ noted gained = gained-is receipts new.receipts gained gains.receipts in
-    record {
-      history = subst (λ (es : List (ℕ × Entry)). IsSiteHistory starts (log ++ by_seat n es) new.books) (sym same)
-          (grown_history starts n log (held mid receipts amount) new lb session at gained known gains between);
-      last = last-grown (held mid receipts amount) new lb session at (length new.receipts - length receipts) gained gains (gained-count receipts new.receipts gained gains.receipts) ∙ sym same;
-    }
-
-pub choose_history : (starts : List Opening) (n : ℕ) (log : List (ℕ × (ℕ × Entry))) (sizes firsts : List ℕ) (books : List Journal) (new : HeldState) (receipts : List Receipt) (amount : ℕ)
-    (on : Occasion) (ask : Ask) (cut : Option (ℕ × Segment)) (r : Result (Choice LeaseNote) (RoomError MarkNote)) → on.lb < length sizes
-    → IfOk r (λ c. CutChooses sizes firsts cut (held books receipts amount) new on ask c) → IfErr r (λ e. CutDenies sizes firsts cut (held books receipts amount) new on e)
-    → IsSiteHistory starts log books → Grew starts n log receipts new.receipts on.lb new.books
-choose_history starts n log sizes firsts books new receipts amount on ask cut (Ok c) within ok err was =
-    hold_history starts n log sizes firsts books ok.0 new receipts amount on.lb on.session on.at cut (ok.3.gains.due ++ ok.3.last ∷ []) within ok.1 ok.2 ok.3.gains.gains was
-choose_history starts n log sizes firsts books new receipts amount on ask cut (Err e) within ok err was =
-    hold_history starts n log sizes firsts books err.0 new receipts amount on.lb on.session on.at cut err.3.due within err.1 err.2 err.3.gains was
-
-pub command_history : (starts : List Opening) (n : ℕ) (log : List (ℕ × (ℕ × Entry))) (sizes firsts : List ℕ) (books : List Journal) (new : HeldState) (receipts : List Receipt) (amount : ℕ)
-    (on : Occasion) (command : Command) (cut : Option (ℕ × Segment)) (r : Result (Unit {0}) (AdminError MarkNote)) → on.lb < length sizes
-    → OnOk r (CutCommands sizes firsts cut (held books receipts amount) new on command) → IfErr r (λ e. CutRefuses sizes firsts cut (held books receipts amount) new on command e)
-    → IsSiteHistory starts log books → Grew starts n log receipts new.receipts on.lb new.books
-command_history starts n log sizes firsts books new receipts amount on command cut (Ok c) within ok err was =
-    hold_history starts n log sizes firsts books ok.0 new receipts amount on.lb on.session on.at cut (ok.3.gains.due ++ ok.3.last ∷ []) within ok.1 ok.2 ok.3.gains.gains was
-command_history starts n log sizes firsts books new receipts amount on command cut (Err e) within ok err was =
-    hold_history starts n log sizes firsts books err.0 new receipts amount on.lb on.session on.at cut err.3.due within err.1 err.2 err.3.gains was
-
 -- Nothing was added.
-last-none : (books : List Journal) (lb : ℕ) → last_in books lb 0 ≡ []
+pub last-none : (books : List Journal) (lb : ℕ) → last_in books lb 0 ≡ []
 last-none books lb = ap (λ (es : List Entry). map (λ e. (lb, e)) es) (none_left (entries_in (slice_get books lb)))
   where
     none_left : (es : List Entry) → drop (length es - 0) es ≡ []
@@ -251,30 +202,6 @@ last-none books lb = ap (λ (es : List Entry). map (λ e. (lb, e)) es) (none_lef
         past : (xs : List Entry) → drop (length xs) xs ≡ []
         past [] = refl
         past (x ∷ xs) = past xs
-
-pub same_history : (starts : List Opening) (n : ℕ) (log : List (ℕ × (ℕ × Entry))) (old new : HeldState) (lb : ℕ) → new ≡ old → IsSiteHistory starts log old.books
-    → Grew starts n log old.receipts new.receipts lb new.books
-same_history starts n log old new lb same was =
-    subst (λ (x : HeldState). Grew starts n log old.receipts x.receipts lb x.books) (sym same)
-    (let none : length old.receipts - length old.receipts ≡ 0 = omega arith in
-    let nothing : gained_in old.receipts old.receipts ≡ [] = ap (λ (xs : List Receipt). noted xs) (gained-none old.receipts) in
-    record {
-      history = subst (λ (es : List (ℕ × Entry)). IsSiteHistory starts (log ++ by_seat n es) old.books) (sym nothing)
-          (subst (λ (l : List (ℕ × (ℕ × Entry))). IsSiteHistory starts l old.books) (sym (append-nil log)) was);
-      last = ap (λ (k : ℕ). last_in old.books lb k) none ∙ last-none old.books lb ∙ sym nothing;
-    })
-
-pub back_history : {E : Type 0} (starts : List Opening) (n : ℕ) (log : List (ℕ × (ℕ × Entry))) (sizes firsts : List ℕ) (books : List Journal) (new : HeldState) (receipts : List Receipt) (amount : ℕ)
-    (session at : ℕ) (lease : LeaseNote) (outcome : Outcome) (cut : Option (ℕ × Segment)) (r : Result (Unit {0}) E) → lease.lb < length sizes
-    → OnOk r (CutReturns sizes firsts cut (held books receipts amount) new session at lease outcome) → OnErr r (CutMeets sizes firsts cut (held books receipts amount) new lease.lb)
-    → IsSiteHistory starts log books → Grew starts n log receipts new.receipts lease.lb new.books
-back_history starts n log sizes firsts books new receipts amount session at lease outcome cut (Ok done) within ok err was =
-    hold_history starts n log sizes firsts books ok.0 new receipts amount lease.lb session at cut (ok.3.0 ∷ []) within ok.1 ok.2 ok.3.2 was
-back_history starts n log sizes firsts books new receipts amount session at lease outcome cut (Err e) within ok err was =
-    same_history starts n log (held err.0 receipts amount) new lease.lb err.3 (first_history starts log books err.0 lease.lb cut err.1 was)
-
-pub no_news : (books : List Journal) (lb count : ℕ) → count ≡ 0 → last_in books lb count ≡ []
-no_news books lb count is = ap (λ (k : ℕ). last_in books lb k) is ∙ last-none books lb
 
 -- The view of a balancer that a hold looked at is that of its whole history.
 pub present_history : {E : Type 0} (starts : List Opening) (log : List (ℕ × (ℕ × Entry))) (sizes firsts : List ℕ) (books : List Journal) (lb : ℕ) (r : Result ViewNote E) → AreSited sizes firsts books

@@ -2,7 +2,7 @@
 use Rattle.std.proofs.Common.{◌≡◌, ◌≢◌, ℕ, suc, Bool, false, cond, List, [], ◌∷◌, ◌++◌, map, refl, sym, ap, ◌∙◌, subst, arith, append-nil, append_assoc, eq-eqb, length, drop, ne_eqb, Option}
 use Rattle.std.specs.Prelude.{◌==◌}
 use Rattle.std.specs.List.{All, filter}
-use Rattle.std.proofs.lemmas.List.Elements.{All-cons, All-head, All-map, All-nil, All-tail, filter-append}
+use Rattle.std.proofs.lemmas.List.Elements.{All-cons, All-head, All-map, All-nil, All-tail, All-weaker, filter-append}
 use mathlib.Core.List.{map-append}
 use mathlib.Core.Option.{some}
 use lib.ListN.{get_elem?}
@@ -14,25 +14,26 @@ use Rattle.lb_book.specs.declared.receipt.Receipt.{Receipt}
 use Rattle.lb_shared.specs.Seats.{AreApart, IsClaim, by_seat, seated, united}
 use Rattle.lb_shared.specs.declared.view.Claim.{Claim}
 use Rattle.lb_shared.specs.declared.view.View.{View}
-use Rattle.lb_shared.specs.Histories.{AreDistinct, DeskSees, HasGone, IsClosed, IsSiteHistory, SeatNote, SeesHold, gained_in, noted, own_in}
+use Rattle.lb_shared.specs.Histories.{AreDistinct, DeskSees, HasGone, IsClosed, IsMadeBy, SeatNote, SeesHold, Step, cuts_seen, gained_in, log_in, noted, own_cuts, own_in}
+use Rattle.lb_shared.proofs.StepLaws.{cuts-append, cuts-foreign, log-append, log-foreign}
 
 -- The claim of a seat.
-abbrev pub claim_of : SeatNote → Claim (ℕ × Entry)
-claim_of s = record { number = s.number; seen = s.seen }
+abbrev pub claim_of : SeatNote → Claim Step
+claim_of s = record { number = s.number; seen = s.steps }
 
 -- A seat of this number that claims nothing of its own, with the claims of these seats.
-abbrev pub joined_view : (number : ℕ) → List SeatNote → View (ℕ × Entry)
+abbrev pub joined_view : (number : ℕ) → List SeatNote → View Step
 joined_view number seats = record { holds = false; claims = record { number = number; seen = [] } ∷ map claim_of seats }
 
 -- One seat more was joined.
-pub joined_more : {S : Type 0} (n : ℕ) (done : List SeatNote) (other : SeatNote) (old mine new : Me (Option S) (View (ℕ × Entry)))
-    → old ≡ (joined_view n done, []) → mine ≡ (seated false other.number other.seen, []) → new ≡ (united old.0 mine.0, old.1)
+pub joined_more : {S : Type 0} (n : ℕ) (done : List SeatNote) (other : SeatNote) (old mine new : Me (Option S) (View Step))
+    → old ≡ (joined_view n done, []) → mine ≡ (seated false other.number other.steps, []) → new ≡ (united old.0 mine.0, old.1)
     → new ≡ (joined_view n (done ++ other ∷ []), [])
 joined_more {S} n done other old mine new was is joined =
     joined
-    ∙ ap (λ (m : Me (Option S) (View (ℕ × Entry))). (united m.0 mine.0, m.1)) was
-    ∙ ap (λ (m : Me (Option S) (View (ℕ × Entry))). (united (joined_view n done) m.0, [])) is
-    ∙ ap (λ (cs : List (Claim (ℕ × Entry))). (record { holds = false; claims = record { number = n; seen = [] } ∷ cs }, [])) (sym (map-append claim_of done (other ∷ [])))
+    ∙ ap (λ (m : Me (Option S) (View Step)). (united m.0 mine.0, m.1)) was
+    ∙ ap (λ (m : Me (Option S) (View Step)). (united (joined_view n done) m.0, [])) is
+    ∙ ap (λ (cs : List (Claim Step)). (record { holds = false; claims = record { number = n; seen = [] } ∷ cs }, [])) (sym (map-append claim_of done (other ∷ [])))
 
 pub no_seats : (seats : List SeatNote) → length seats ≡ 0 → seats ≡ []
 no_seats [] none = refl
@@ -54,41 +55,66 @@ none_own n (x ∷ xs) others =
     (ne_eqb x.0 n (All-head (λ (y : ℕ × (ℕ × Entry)). y.0 ≢ n) x xs others))
     ∙ none_own n xs (All-tail (λ (y : ℕ × (ℕ × Entry)). y.0 ≢ n) x xs others)
 
-pub claim_own : (log : List (ℕ × (ℕ × Entry))) (c : Claim (ℕ × Entry)) → IsClaim log c → own_in c.number log ≡ own_in c.number c.seen
-claim_own log c is =
-    ap (λ (l : List (ℕ × (ℕ × Entry))). own_in c.number l) is.whole
-    ∙ own-append c.number c.seen is.later
-    ∙ ap (λ (es : List (ℕ × Entry)). own_in c.number c.seen ++ es) (none_own c.number is.later is.others)
-    ∙ append-nil (own_in c.number c.seen)
+pub claim_own : (steps : List (ℕ × Step)) (c : Claim Step) → IsClaim steps c → own_in c.number (log_in steps) ≡ own_in c.number (log_in c.seen)
+claim_own steps c is =
+    ap (λ (l : List (ℕ × Step)). own_in c.number (log_in l)) is.whole
+    ∙ ap (λ (l : List (ℕ × (ℕ × Entry))). own_in c.number l) (log-append c.seen is.later)
+    ∙ own-append c.number (log_in c.seen) (log_in is.later)
+    ∙ ap (λ (es : List (ℕ × Entry)). own_in c.number (log_in c.seen) ++ es) (none_own c.number (log_in is.later) (log-foreign c.number is.later is.others))
+    ∙ append-nil (own_in c.number (log_in c.seen))
 
-owns : (log : List (ℕ × (ℕ × Entry))) (seats : List SeatNote) → ((k : ℕ) (c : Claim (ℕ × Entry)) → get_elem? (map claim_of seats) k ≡ some c → IsClaim log c)
-    → All (λ s. own_in s.number log ≡ own_in s.number s.seen) seats
-owns log [] each = All-nil _
-owns log (s ∷ seats) each =
-    All-cons (λ (t : SeatNote). own_in t.number log ≡ own_in t.number t.seen) s seats (claim_own log (claim_of s) (each 0 (claim_of s) refl))
-    (owns log seats (λ k c at. each (suc k) c at))
+pub claim_cuts : (steps : List (ℕ × Step)) (c : Claim Step) → IsClaim steps c → own_cuts c.number steps ≡ own_cuts c.number c.seen
+claim_cuts steps c is =
+    ap (λ (l : List (ℕ × Step)). own_cuts c.number l) is.whole
+    ∙ cuts-append c.number [] c.seen is.later
+    ∙ ap (λ (l : List (ℕ × List (ℕ × Step))). own_cuts c.number c.seen ++ l) (cuts-foreign c.number c.seen is.later is.others)
+    ∙ append-nil (own_cuts c.number c.seen)
 
-distinct : (cs : List (Claim (ℕ × Entry))) → AreApart cs → AreDistinct (map (λ c. c.number) cs)
+-- The entries that a seat has seen are those of its steps, at a Site whose balancers began with these openings.
+abbrev pub IsTold : List Opening → SeatNote → Type 0
+IsTold starts s = (s.seen ≡ log_in s.steps) × (s.starts ≡ starts)
+
+owns : (starts : List Opening) (steps : List (ℕ × Step)) (seats : List SeatNote) → All (IsTold starts) seats → ((k : ℕ) (c : Claim Step) → get_elem? (map claim_of seats) k ≡ some c → IsClaim steps c)
+    → All (λ s. own_in s.number (log_in steps) ≡ own_in s.number s.seen) seats
+owns starts steps [] told each = All-nil _
+owns starts steps (s ∷ seats) told each =
+    All-cons (λ (t : SeatNote). own_in t.number (log_in steps) ≡ own_in t.number t.seen) s seats
+    (claim_own steps (claim_of s) (each 0 (claim_of s) refl) ∙ ap (λ (l : List (ℕ × (ℕ × Entry))). own_in s.number l) (sym (All-head (IsTold starts) s seats told).0))
+    (owns starts steps seats (All-tail (IsTold starts) s seats told) (λ k c at. each (suc k) c at))
+
+cuts_own : (steps : List (ℕ × Step)) (seats : List SeatNote) → ((k : ℕ) (c : Claim Step) → get_elem? (map claim_of seats) k ≡ some c → IsClaim steps c)
+    → All (λ s. own_cuts s.number steps ≡ cuts_seen s) seats
+cuts_own steps [] each = All-nil _
+cuts_own steps (s ∷ seats) each =
+    All-cons (λ (t : SeatNote). own_cuts t.number steps ≡ cuts_seen t) s seats (claim_cuts steps (claim_of s) (each 0 (claim_of s) refl))
+    (cuts_own steps seats (λ k c at. each (suc k) c at))
+
+distinct : (cs : List (Claim Step)) → AreApart cs → AreDistinct (map (λ c. c.number) cs)
 distinct [] apart = tt
 distinct (c ∷ cs) apart = (
-  All-map (λ (m : ℕ). m ≢ c.number) (λ (d : Claim (ℕ × Entry)). d.number) cs
-      (all_at (λ (d : Claim (ℕ × Entry)). d.number ≢ c.number) cs (λ m d at same. absurd (omega (arith, apart (suc m) 0 d c at refl same)))),
+  All-map (λ (m : ℕ). m ≢ c.number) (λ (d : Claim Step). d.number) cs
+      (all_at (λ (d : Claim Step). d.number ≢ c.number) cs (λ m d at same. absurd (omega (arith, apart (suc m) 0 d c at refl same)))),
   distinct cs (λ k m d e one other same. omega (arith, apart (suc k) (suc m) d e one other same)),
 )
 
-numbers_of : (seats : List SeatNote) → map (λ (c : Claim (ℕ × Entry)). c.number) (map claim_of seats) ≡ map (λ s. s.number) seats
+numbers_of : (seats : List SeatNote) → map (λ (c : Claim Step). c.number) (map claim_of seats) ≡ map (λ s. s.number) seats
 numbers_of [] = refl
 numbers_of (s ∷ seats) = ap (λ (ns : List ℕ). s.number ∷ ns) (numbers_of seats)
 
 -- The history of a Site whose lock was closed with these seats.
-pub closed_by : (starts : List Opening) (books : List Journal) (log : List (ℕ × (ℕ × Entry))) (first : Claim (ℕ × Entry)) (seats : List SeatNote)
-    → IsSiteHistory starts log books
-    → ((k : ℕ) (c : Claim (ℕ × Entry)) → get_elem? (first ∷ map claim_of seats) k ≡ some c → IsClaim log c)
+pub closed_by : (starts : List Opening) (books : List Journal) (steps : List (ℕ × Step)) (first : Claim Step) (seats : List SeatNote)
+    → IsMadeBy starts steps books → All (IsTold starts) seats
+    → ((k : ℕ) (c : Claim Step) → get_elem? (first ∷ map claim_of seats) k ≡ some c → IsClaim steps c)
     → AreApart (first ∷ map claim_of seats) → IsClosed starts seats books
-closed_by starts books log first seats history each apart = record {
-  log = log;
-  history = history;
-  own = owns log seats (λ k c at. each (suc k) c at);
+closed_by starts books steps first seats made told each apart = record {
+  steps = steps;
+  journals = made.journals;
+  begun = All-weaker (IsTold starts) (λ (s : SeatNote). s.starts ≡ starts) (λ s is. is.1) seats told;
+  cuts = cuts_own steps seats (λ k c at. each (suc k) c at);
+  log = log_in steps;
+  entries = refl;
+  history = made.history;
+  own = owns starts steps seats told (λ k c at. each (suc k) c at);
   apart = subst AreDistinct (numbers_of seats) (distinct (first ∷ map claim_of seats) apart).1;
 }
 

@@ -3,6 +3,7 @@ pub mod GoneLaws
 pub mod HeldLaws
 pub mod HistoryLaws
 pub mod HoldLaws
+pub mod JournalLaws
 pub mod Keeps
 pub mod LeftLaws
 pub mod LockLaws
@@ -13,3 +14,4 @@ pub mod SetLaws
 pub mod SharedLaws
 pub mod ShelfLaws
 pub mod SiteLaws
+pub mod StepLaws

@@ -1,5 +1,5 @@
 -- The one history of a Site, and what a desk has seen of it. Read this with specs/Seats.antt.
-use Rattle.std.specs.Prelude.{◌≡◌, ◌≢◌, ◌⊎◌, ℕ, ◌-◌, ◌==◌, ◌<◌, false, List, [], ◌∷◌, ◌++◌, length, map, reverse, drop, Option, Some, None, slice_get}
+use Rattle.std.specs.Prelude.{◌≡◌, ◌≢◌, ◌⊎◌, ℕ, ◌-◌, ◌==◌, ◌<◌, Bool, true, false, List, [], ◌∷◌, ◌++◌, length, map, reverse, drop, Option, Some, None, slice_get}
 use Rattle.std.specs.List.{All, filter}
 use Rattle.atomic_table.specs.Seated.{TableId}
 use Rattle.atomic_table.specs.Table.{Me}
@@ -7,17 +7,39 @@ use Rattle.lb_model.specs.Limits.{modern_rules}
 use Rattle.lb_model.specs.Present.{IsPresent}
 use Rattle.lb_model.specs.declared.journal.Entry.{Entry}
 use Rattle.lb_model.specs.declared.opening.Opening.{Opening}
+use Rattle.lb_model.specs.declared.segment.Segment.{Segment}
 use Rattle.lb_book.specs.Journal.{Journal}
 use Rattle.lb_book.specs.declared.receipt.Receipt.{Receipt}
 use Rattle.lb_shared.specs.Seats.{by_seat, seated}
 use Rattle.lb_shared.specs.declared.view.Claim.{Claim}
 use Rattle.lb_shared.specs.declared.view.View.{View}
-use Rattle.lb_book.specs.Histories.{IsHistoryOf}
+use Rattle.lb_book.specs.Histories.{IsHistoryOf, LeadsTo}
 use Rattle.lb_shared.specs.Notes.{ViewNote}
 use Rattle.lb_shared.specs.Sites.{At}
 
--- The history has every entry that was ever added to a balancer of the Site, with its balancer, in the order of the holds,
--- each with the number of the desk that added it. These are the entries of balancer lb.
+-- A step of a Site: its balancer, and the entry that was added to it; None is a cut of its journal.
+abbrev pub Step : Type 0
+Step = ℕ × Option Entry
+
+-- The steps of a hold: the cut, if there was one, and then the entries that were added.
+abbrev pub cut_mark : (lb : ℕ) → (cut : Bool) → List Step
+cut_mark lb true = (lb, None) ∷ []
+cut_mark lb false = []
+
+abbrev pub added_steps : List (ℕ × Entry) → List Step
+added_steps entries = map (λ x. (x.0, Some x.1)) entries
+
+-- The history has every step of the Site, in the order of the holds, each with the number of the desk that made it. These are
+-- its entries alone, each with its desk and its balancer.
+abbrev pub entered : (number lb : ℕ) → Option Entry → List (ℕ × (ℕ × Entry))
+entered number lb None = []
+entered number lb (Some e) = (number, (lb, e)) ∷ []
+
+abbrev pub log_in : List (ℕ × Step) → List (ℕ × (ℕ × Entry))
+log_in [] = []
+log_in (x ∷ steps) = entered x.0 x.1.0 x.1.1 ++ log_in steps
+
+-- These are the entries of balancer lb.
 abbrev pub entries_of : (lb : ℕ) → List (ℕ × (ℕ × Entry)) → List Entry
 entries_of lb log = map (λ x. x.1.1) (filter (λ x. x.1.0 == lb) log)
 
@@ -29,6 +51,45 @@ pub record IsSiteHistory (starts : List Opening) (log : List (ℕ × (ℕ × Ent
       → IsHistoryOf o (entries_of lb log) b
   pub added : (lb : ℕ) → At books lb (λ b. b.added ≡ length (entries_of lb log))
   pub known : All (λ x. x.1.0 < length starts) log
+
+-- Of balancer lb, which began with the opening o, the journal that these steps leave has this opening and these entries: those that
+-- were added since it was cut last, from the opening to which the entries before that cut lead.
+pub record IsJournalAfter (o : Opening) (lb : ℕ) (steps : List (ℕ × Step)) (opening : Opening) (entries : List Entry) : Type 0 where
+  pub before : List (ℕ × Step)
+  pub since : List (ℕ × Step)
+  pub whole : steps ≡ before ++ since
+  pub last_cut : (before ≡ []) ⊎ ((n : ℕ) × (first : List (ℕ × Step)) × (before ≡ first ++ (n, (lb, None)) ∷ []))
+  pub uncut : All (λ x. x.1 ≢ (lb, None)) since
+  pub leads : LeadsTo o (entries_of lb (log_in before)) opening
+  pub kept : entries ≡ entries_of lb (log_in since)
+
+-- The segment is the journal that these steps leave of its balancer, at a Site whose balancers began with these openings.
+pub record IsSegmentAfter (starts : List Opening) (steps : List (ℕ × Step)) (cut : ℕ × Segment) : Type 0 where
+  pub rules : cut.1.rules ≡ modern_rules
+  pub journal : (o : Opening) → slice_get starts cut.0 ≡ Some o → IsJournalAfter o cut.0 steps cut.1.opening cut.1.entries
+
+-- Each Book has the journal that these steps leave of its balancer.
+abbrev pub AreJournalsAfter : (starts : List Opening) → List (ℕ × Step) → List Journal → Type 0
+AreJournalsAfter starts steps books =
+    (lb : ℕ) (o : Opening) (b : Journal) → slice_get starts lb ≡ Some o → slice_get books lb ≡ Some b → IsJournalAfter o lb steps b.opening b.entries
+
+-- These Books are what these steps made of balancers that began with these openings.
+pub record IsMadeBy (starts : List Opening) (steps : List (ℕ × Step)) (books : List Journal) : Type 0 where
+  pub history : IsSiteHistory starts (log_in steps) books
+  pub journals : AreJournalsAfter starts steps books
+
+-- Each cut by the desk of this number, after steps before: its balancer, and all steps before it.
+abbrev pub cut_here : (own : Bool) → (lb : ℕ) → (before : List (ℕ × Step)) → Option Entry → List (ℕ × List (ℕ × Step))
+cut_here true lb before None = (lb, before) ∷ []
+cut_here true lb before (Some e) = []
+cut_here false lb before e = []
+
+abbrev pub cuts_from : (number : ℕ) → (before steps : List (ℕ × Step)) → List (ℕ × List (ℕ × Step))
+cuts_from number before [] = []
+cuts_from number before (x ∷ steps) = cut_here (x.0 == number) x.1.0 before x.1.1 ++ cuts_from number (before ++ x ∷ []) steps
+
+abbrev pub own_cuts : (number : ℕ) → List (ℕ × Step) → List (ℕ × List (ℕ × Step))
+own_cuts number steps = cuts_from number [] steps
 
 -- The openings of Books.
 abbrev pub starts_of : List Journal → List Opening
@@ -60,42 +121,65 @@ pub record SeesHold (starts : List Opening) (number : ℕ) (before after : List 
   pub books : List Journal
   pub history : IsSiteHistory starts after books
 
--- The number of a seat, and the history that it has seen.
-abbrev pub first_claim : List (Claim (ℕ × Entry)) → Claim (ℕ × Entry)
+-- The number of a seat, the steps that it has seen, and their entries.
+abbrev pub first_claim : List (Claim Step) → Claim Step
 first_claim [] = record { number = 0; seen = [] }
 first_claim (c ∷ cs) = c
 
-abbrev pub number_of : View (ℕ × Entry) → ℕ
+abbrev pub number_of : View Step → ℕ
 number_of v = (first_claim v.claims).number
 
-abbrev pub seen_of : View (ℕ × Entry) → List (ℕ × (ℕ × Entry))
-seen_of v = (first_claim v.claims).seen
+abbrev pub steps_of : View Step → List (ℕ × Step)
+steps_of v = (first_claim v.claims).seen
+
+abbrev pub seen_of : View Step → List (ℕ × (ℕ × Entry))
+seen_of v = log_in (steps_of v)
 
 -- The seat has one claim, and not the lock's value.
-abbrev pub IsResting : {S : Type 0} → Me (Option S) (View (ℕ × Entry)) → Type 0
-IsResting me = me ≡ (seated false (number_of me.0) (seen_of me.0), [])
+abbrev pub IsResting : {S : Type 0} → Me (Option S) (View Step) → Type 0
+IsResting me = me ≡ (seated false (number_of me.0) (steps_of me.0), [])
 
 -- A hold of the lock by this seat.
-pub record SeatSees {S : Type 0} (starts : List Opening) (old new : Me (Option S) (View (ℕ × Entry))) (gained : List (ℕ × Entry)) : Type 0 where
+pub record SeatSees {S : Type 0} (starts : List Opening) (old new : Me (Option S) (View Step)) (gained : List (ℕ × Entry)) : Type 0 where
   pub rests : IsResting new
   pub number : number_of new.0 ≡ number_of old.0
   pub sees : SeesHold starts (number_of old.0) (seen_of old.0) (seen_of new.0) gained
 
--- The note of a desk's seat: at which lock it is, its number, and the history that it has seen.
+-- The note of a desk's seat: at which lock it is, with the openings with which the balancers behind it began; its number, the
+-- entries of the history that it has seen, and all steps of it.
 pub record SeatNote : Type 0 where
   pub lock : TableId
+  pub starts : List Opening
   pub number : ℕ
   pub seen : List (ℕ × (ℕ × Entry))
+  pub steps : List (ℕ × Step)
 
 abbrev pub no_seat : SeatNote
 no_seat = record {
   lock = record { words = 0; slots = 0; views_name = 0; atom = 0; block = 0; offset = 0; slot_names = [] };
+  starts = [];
   number = 0;
   seen = [];
+  steps = [];
 }
 
-abbrev pub seat_note : {S : Type 0} → TableId → Me (Option S) (View (ℕ × Entry)) → SeatNote
-seat_note lock me = record { lock = lock; number = number_of me.0; seen = seen_of me.0 }
+abbrev pub seat_note : {S : Type 0} → List Opening → TableId → Me (Option S) (View Step) → SeatNote
+seat_note starts lock me = record { lock = lock; starts = starts; number = number_of me.0; seen = seen_of me.0; steps = steps_of me.0 }
+
+-- The cuts that the desk with this seat has seen as its own.
+abbrev pub cuts_seen : SeatNote → List (ℕ × List (ℕ × Step))
+cuts_seen s = own_cuts s.number s.steps
+
+-- In a hold by the desk with this seat the journal that its history then left of the segment's balancer was cut, and this is its
+-- segment; or nothing was cut.
+pub record CutsHere (old new : SeatNote) (cut : ℕ × Segment) : Type 0 where
+  pub before : List (ℕ × Step)
+  pub told : cuts_seen new ≡ cuts_seen old ++ (cut.0, before) ∷ []
+  pub is : IsSegmentAfter new.starts before cut
+
+abbrev pub MayCut : (old new : SeatNote) → Option (ℕ × Segment) → Type 0
+MayCut old new None = cuts_seen new ≡ cuts_seen old
+MayCut old new (Some cut) = CutsHere old new cut
 
 -- A hold by the desk with this seat, which keeps its lock and its number.
 pub record DeskSees (starts : List Opening) (old new : SeatNote) (gained : List (ℕ × Entry)) : Type 0 where
@@ -120,10 +204,16 @@ abbrev pub AreDistinct : List ℕ → Type 0
 AreDistinct [] = Unit {0}
 AreDistinct (n ∷ ns) = All (λ m. m ≢ n) ns × AreDistinct ns
 
--- One history of the Site made its Books what they are. Of each desk with one of these seats it has just the entries that the
--- desk has seen as its own, in their order. No two of these desks have one number.
+-- One history of the Site made its Books what they are, and has left of each balancer the journal that its Book keeps. Of each
+-- desk with one of these seats it has just the entries and the cuts that the desk has seen as its own, in their order. No two of
+-- these desks have one number.
 pub record IsClosed (starts : List Opening) (seats : List SeatNote) (books : List Journal) : Type 0 where
+  pub steps : List (ℕ × Step)
+  pub journals : AreJournalsAfter starts steps books
+  pub begun : All (λ s. s.starts ≡ starts) seats
+  pub cuts : All (λ s. own_cuts s.number steps ≡ cuts_seen s) seats
   pub log : List (ℕ × (ℕ × Entry))
+  pub entries : log ≡ log_in steps
   pub history : IsSiteHistory starts log books
   pub own : All (λ s. own_in s.number log ≡ own_in s.number s.seen) seats
   pub apart : AreDistinct (map (λ s. s.number) seats)

@@ -1,5 +1,5 @@
 -- One hold of the lock: a Maintain if due, and then a call, on one Book.
-use Rattle.std.specs.Prelude.{◌≡◌, ℕ, ◌+◌, ◌-◌, ◌<◌, ◌≤◌, ◌⊎◌, Bool, false, List, [], ◌∷◌, ◌++◌, length, sum_by, Option, Some, None, Result, Ok, Err, slice_get, slice_index, slice_set, vec_capacity}
+use Rattle.std.specs.Prelude.{◌≡◌, ℕ, ◌+◌, ◌-◌, ◌<◌, ◌≤◌, ◌⊎◌, Bool, false, List, [], ◌∷◌, ◌++◌, length, sum_by, Option, Some, None, Result, Ok, Err, slice_get, slice_index, slice_set, vec_capacity, is_some}
 use Rattle.std.specs.List.{All}
 use Rattle.lb_model.specs.Free.{is_in}
 use Rattle.lb_model.specs.Legal.{HasValues}
@@ -25,6 +25,7 @@ use Rattle.lb_book.specs.declared.desk.Choice.{Choice}
 use Rattle.lb_book.specs.declared.desk.Choice.TheVariants as choice
 use Rattle.lb_book.specs.declared.desk.Occasion.{Occasion}
 use Rattle.lb_book.specs.declared.receipt.Receipt.{Receipt}
+use Rattle.lb_shared.specs.Histories.{Step, added_steps, cut_mark, last_in}
 use Rattle.lb_shared.specs.Notes.{MarkNote}
 use Rattle.lb_shared.specs.Shelves.{CutsAt}
 use Rattle.lb_shared.specs.Sites.{AreSited, At}
@@ -39,12 +40,17 @@ abbrev pub pools_of : Journal → ℕ
 pools_of b = sum_by (λ c. c.pool) b.opening.config.members
 
 -- The value behind the lock: the Books, the number of kept entries at which a journal is cut, where 0 is never, and the
--- balancer of the last hold with how many entries it added.
+-- balancer of the last hold, with whether it cut that journal and how many entries it added.
 pub record LockedState : Type 0 where
   pub books : List Journal
   pub cut_at : ℕ
   pub lb : ℕ
+  pub cut : Bool
   pub count : ℕ
+
+-- The steps of the last hold.
+abbrev pub last_steps : LockedState → List Step
+last_steps l = cut_mark l.lb l.cut ++ added_steps (last_in l.books l.lb l.count)
 
 -- Where journals are cut, none is much longer than the length at which it is cut.
 abbrev pub AreShort : (cut_at : ℕ) → List Journal → Type 0
@@ -70,9 +76,13 @@ hold_of locked account = held_by locked.books account
 abbrev pub KeepsAccount : {L : Type 0} {n : Ghosts L} → (old new : Account L n) → Type 0
 KeepsAccount old new = (new.share.parts ≡ old.share.parts) × (vec_capacity old.receipts ≤ vec_capacity new.receipts)
 
--- The value behind the lock tells of balancer lb, and of as many entries as this account got receipts for.
-abbrev pub TellsNews : {L : Type 0} {n : Ghosts L} → (lb : ℕ) → LockedState → (old new : Account L n) → Type 0
-TellsNews lb told old new = (told.lb ≡ lb) × (told.count ≡ length new.receipts.items - length old.receipts.items)
+-- The value behind the lock tells of balancer lb, and of as many entries as this account got receipts for; and of this cut.
+abbrev pub TellsAdded : {L : Type 0} {n : Ghosts L} → (lb : ℕ) → LockedState → (old new : Account L n) → Type 0
+TellsAdded lb told old new = (told.lb ≡ lb) × (told.count ≡ length new.receipts.items - length old.receipts.items)
+
+abbrev pub TellsNews : {L : Type 0} {n : Ghosts L} → (lb : ℕ) → Option (ℕ × Segment) → LockedState → (old new : Account L n) → Type 0
+TellsNews lb cut told old new =
+    (told.lb ≡ lb) × (told.count ≡ length new.receipts.items - length old.receipts.items) × (told.cut ≡ is_some cut)
 
 -- A receipt, if there is one, as a list.
 abbrev pub listed : Option Receipt → List Receipt

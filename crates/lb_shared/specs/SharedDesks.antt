@@ -15,7 +15,7 @@ use Rattle.lb_book.specs.ToldBooks.{IsFound}
 use Rattle.lb_book.specs.declared.desk.Choice.{Choice}
 use Rattle.lb_book.specs.declared.desk.Choice.TheVariants as choice
 use Rattle.lb_book.specs.declared.receipt.Receipt.{Receipt}
-use Rattle.lb_shared.specs.Histories.{SeatNote}
+use Rattle.lb_shared.specs.Histories.{MayCut, SeatNote, cuts_seen}
 use Rattle.lb_shared.specs.Notes.{MarkNote, StrayNote}
 use Rattle.lb_shared.specs.Shelves.{ShelfNote}
 
@@ -31,7 +31,14 @@ pub record SharedState (S : Type 0) : Type 0 where
 
 -- The note of its shelf.
 abbrev pub shelf_note : {S : Type 0} → (S → Option (List (ℕ × Segment))) → (S → ℕ) → SharedState S → ShelfNote
-shelf_note shelved faults d = record { shelved = shelved d.shelf; faults = faults d.shelf; wants = d.wants; forgotten = d.forgotten }
+shelf_note shelved faults d = record {
+  shelved = shelved d.shelf;
+  faults = faults d.shelf;
+  wants = d.wants;
+  forgotten = d.forgotten;
+  starts = d.seat.starts;
+  cuts = cuts_seen d.seat;
+}
 
 -- what each desk tells of a stray, which doesn't name its balancer
 abbrev pub stray_in : Option StrayNote → Option Stray
@@ -101,13 +108,16 @@ pub record CutsFor (sizes : List ℕ) (cut_at lb : ℕ) (cut : Option (ℕ × Se
   pub when : CutsOrWants sizes cut_at lb cut Wanting
   pub next : IfSome cut (λ s. GoesOnFrom s.1 old new)
 
--- At most one segment of balancer lb was put away, and no receipt was forgotten.
+-- At most one segment of balancer lb was put away, which is the journal of its balancer in the history that the seat has then seen,
+-- and no receipt was forgotten.
 pub record PutsAwayOf {S : Type 0} (shelved : S → Option (List (ℕ × Segment))) (faults : S → ℕ) (sizes : List ℕ) (cut_at lb : ℕ) (old new : SharedState S) (Wanting : Type 0) : Type 0 where
   pub cut : Option (ℕ × Segment)
   pub of : IfSome cut (λ s. s.0 ≡ lb)
   pub when : CutsOrWants sizes cut_at lb cut Wanting
   pub next : IfSome cut (λ s. GoesOnFrom s.1 old.desk.receipts new.desk.receipts)
   pub put : PutsAway shelved faults old.shelf new.shelf old.wants new.wants cut
+  pub told : MayCut old.seat new.seat cut
+  pub starts : new.seat.starts ≡ old.seat.starts
   pub forgotten : new.forgotten ≡ old.forgotten
 
 -- The place of the last copy of this pair, if there is one.

@@ -31,9 +31,9 @@ pub record StakeState : Type 0 where
 abbrev pub told_of : (sizes : List ℕ) → StakeState → (strays fulls wides : ℕ) → (met : Option Stray) → DeskState
 told_of sizes stake strays fulls wides met = shared_desk sizes stake.parts stake.receipts stake.held stake.amount strays fulls wides met
 
--- A hold keeps the part of the ledger, and forgets no receipt.
+-- A hold keeps the part of the ledger, forgets no receipt, and is at the same Site.
 abbrev pub KeepsStake : (old new : StakeState) → Type 0
-KeepsStake old new = (new.parts ≡ old.parts) × (new.forgotten ≡ old.forgotten)
+KeepsStake old new = (new.parts ≡ old.parts) × (new.forgotten ≡ old.forgotten) × (new.seat.starts ≡ old.seat.starts)
 
 -- The desk chose.
 abbrev pub StakeChooses : (sizes : List ℕ) → (old new : StakeState) → Occasion → Ask → Choice LeaseNote → Type 0

@@ -12,15 +12,11 @@ pub struct LeftSeat<L: SiteName> {
 }
 
 impl<L: SiteName> Model for LeftSeat<L> {
-    ghost use Rattle.lb_shared.specs.Histories.{IsResting, SeatNote, number_of, seen_of};
+    ghost use Rattle.lb_shared.specs.Histories.{IsResting, SeatNote, seat_note};
 
     ghost Value = { SeatNote };
 
-    ghost view = { λ s. record {
-      lock = s.seat.table_id;
-      number = number_of s.seat.me.0;
-      seen = seen_of s.seat.me.0;
-    } };
+    ghost view = { λ s. seat_note L.starts s.seat.table_id s.seat.me };
 
     ghost invariant = { λ s. IsResting s.seat.me };
 }
@@ -31,18 +27,19 @@ pub type LeftSeatList<L> = ListOf<LeftSeat<L>>;
 impl<L: SiteName> LeftSeat<L> {
     ghost use Rattle.std.specs.Prelude.{◌≡◌, [], false};
     ghost use Rattle.lb_shared.specs.Seats.{seated};
-    ghost use Rattle.lb_shared.specs.Histories.{IsResting, number_of, seen_of};
+    ghost use Rattle.lb_shared.specs.Histories.{IsResting, log_in, seat_note};
 
     pub(crate) fn new(seat: SiteSeat<L>) -> LeftSeat<L>
         requires { IsResting seat.me }
-        ensures { result ≡ record { lock = seat.table_id; number = number_of seat.me.0; seen = seen_of seat.me.0 } }
+        ensures { result ≡ seat_note L.starts seat.table_id seat.me }
     {
         LeftSeat { seat }
     }
 
     pub(crate) fn into_seat(self) -> SiteSeat<L>
         ensures lock { result.table_id ≡ self.lock }
-        ensures me { result.me ≡ (seated false self.number self.seen, []) }
+        ensures me { result.me ≡ (seated false self.number self.steps, []) }
+        ensures seen { (self.seen ≡ log_in self.steps) × (self.starts ≡ L.starts) }
     {
         let LeftSeat { seat } = self;
         seat

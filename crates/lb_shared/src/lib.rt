@@ -3,9 +3,10 @@
 //! Source: Tomcat Connectors reference, LoadBalancer HowTo; one lock round all balancers is an own rule.
 //! Shapes: a `Site` is in contracts the list of its Books' journals; the amount of a share of its ledger is the number
 //! of entries that were added through it. Receipts, leases, marks, views, strays and segments name the Site in their type.
-//! The Site lies behind a lock that keeps one history of it, a list of entries, each with the number of the seat that added it, which
-//! exists in contracts alone; a desk's seat, which takes no memory, knows what it has seen of that history and which entries are
-//! its own (specs/Histories.antt, `SeesHold`). The lock is the futex lock of three states, over the kit's table of words and slots.
+//! The Site lies behind a lock that keeps one history of it, a list of steps, each an entry that was added or a cut of a journal, with the
+//! number of the seat that made it, which exists in contracts alone; a desk's seat, which takes no memory, knows what it has seen of
+//! that history and which steps are its own (specs/Histories.antt, `SeesHold`, `MayCut`). The lock is the futex lock of three states,
+//! over the kit's table of words and slots.
 //! Contract: each call of a `Site`, clauses `ok`, `amount` and `err`; `Site::close`, clause `counted`; `SharedDesk` is a
 //! `Desk`, with `hand_back`, clause `counted`, `choose` and `command`, clause `shelf`, and each call, clause `sees`; its own `take_back`,
 //! clause `shelf`; the type `Leaving`, field `counted`.

@@ -26,13 +26,15 @@ pub(crate) struct HandedBack<L> {
     pub(crate) outcome: Outcome,
 }
 
-/// A Site whose journals are cut before they grow long, with the balancer of the last hold and how many entries it added.
+/// A Site whose journals are cut before they grow long, with the balancer of the last hold, whether it cut that journal, and how
+/// many entries it added.
 #[derive(Drop)]
 pub(crate) struct Locked<L: SiteName> {
     site: Site<L>,
     /// The number of kept entries from which on a journal is cut; 0 is never.
     cut_at: u32,
     lb: u32,
+    cut: bool,
     count: usize,
 }
 
@@ -42,13 +44,13 @@ impl<L: SiteName> Model for Locked<L> {
 
     ghost Value = { LockedState };
 
-    ghost view = { λ l. record { books = l.site; cut_at = l.cut_at; lb = l.lb; count = l.count } };
+    ghost view = { λ l. record { books = l.site; cut_at = l.cut_at; lb = l.lb; cut = l.cut; count = l.count } };
 
     ghost invariant = { λ l. (l.cut_at ≡ L.cut_at) × AreShort l.cut_at l.site };
 }
 
 impl<L: SiteName> Locked<L> {
-    ghost use Rattle.std.specs.Prelude.{◌≡◌, ℕ, ◌+◌, ◌<◌, ◌≤◌, ◌↔◌, [], length, slice_index, vec_len, vec_capacity, None, IfOk, IfErr, IsErr, IsErrOf, IsSome, OnOk, OnErr};
+    ghost use Rattle.std.specs.Prelude.{◌≡◌, ℕ, ◌+◌, ◌<◌, ◌≤◌, ◌↔◌, false, [], length, slice_index, vec_len, vec_capacity, None, IfOk, IfErr, IsErr, IsErrOf, IsSome, OnOk, OnErr, is_some};
     ghost use Rattle.lb_model.specs.Present.{IsPresent};
     ghost use Rattle.lb_book.specs.Desks.{IsNotOut};
     ghost use Rattle.lb_book.specs.Journal.{Journal, past_of};
@@ -65,6 +67,7 @@ impl<L: SiteName> Locked<L> {
       IsAdminMark,
       IsRoomMark,
       KeepsAccount,
+      TellsAdded,
       TellsNews,
       cut_in,
       hold_of,
@@ -77,13 +80,14 @@ impl<L: SiteName> Locked<L> {
     pub(crate) fn new(site: Site<L>, cut_at: u32) -> Locked<L>
         requires named { cut_at ≡ L.cut_at }
         requires uncut { 0 < cut_at → (lb : ℕ) → At site lb (λ b. b.entries ≡ []) }
-        ensures { result ≡ record { books = site; cut_at = cut_at; lb = 0; count = 0 } }
+        ensures { result ≡ record { books = site; cut_at = cut_at; lb = 0; cut = false; count = 0 } }
     {
         site.count();
         Locked {
             site,
             cut_at,
             lb: 0,
+            cut: false,
             count: 0,
         }
     }
@@ -101,14 +105,17 @@ impl<L: SiteName> Locked<L> {
         ensures when { IfOk result (λ s. At self.old.books lb (λ b. IsSome s ↔ ((0 < L.cut_at) × (L.cut_at ≤ length b.entries)))) }
         ensures sited { AreSited L.sizes L.firsts self.old.books × AreSited L.sizes L.firsts self.new.books }
         ensures short { OnOk result (0 < self.new.cut_at → At self.new.books lb (λ b. length b.entries < self.new.cut_at)) }
-        ensures err { OnErr result (self.new ≡ self.old) }
+        ensures told { self.new.cut ≡ is_some (cut_in result) }
+        ensures err { OnErr result (self.new ≡ record self.old { cut = false }) }
         ensures same { (self.new.cut_at ≡ self.old.cut_at) × (self.new.lb ≡ self.old.lb) }
     {
+        self.cut = false;
         self.site.count();
         if self.cut_at == 0 || self.site.kept(lb) < self.cut_at as u64 {
             return Ok(None);
         }
         let segment = self.site.cut(lb)?;
+        self.cut = true;
         self.site.count();
         Ok(Some(segment))
     }
@@ -128,7 +135,7 @@ impl<L: SiteName> Locked<L> {
         ensures mark { IfErr result.1 (IsRoomMark on.lb 2) }
         ensures few { account.new.share.amount ≤ MOST_ENTRIES }
         ensures kept { KeepsAccount account.old account.new }
-        ensures news { TellsNews on.lb self.new account.old account.new }
+        ensures news { TellsNews on.lb result.0 self.new account.old account.new }
     {
         let before = account.receipts.len();
         self.site.audit(&mut account.share);
@@ -159,7 +166,7 @@ impl<L: SiteName> Locked<L> {
         ensures mark { IfErr result.1 (IsAdminMark on.lb) }
         ensures few { account.new.share.amount ≤ MOST_ENTRIES }
         ensures kept { KeepsAccount account.old account.new }
-        ensures news { TellsNews on.lb self.new account.old account.new }
+        ensures news { TellsNews on.lb result.0 self.new account.old account.new }
     {
         let before = account.receipts.len();
         self.site.audit(&mut account.share);
@@ -187,7 +194,7 @@ impl<L: SiteName> Locked<L> {
         ensures why { IfErr result.1 (λ s. IsNotOut L.sizes None back.lease s.stray) }
         ensures few { account.new.share.amount ≤ MOST_ENTRIES }
         ensures kept { KeepsAccount account.old account.new }
-        ensures news { TellsNews back.lease.lb self.new account.old account.new }
+        ensures news { TellsNews back.lease.lb (cut_in result.0) self.new account.old account.new }
     {
         self.site.count();
         let cut = self.cut_first(back.lease.lb());
@@ -211,7 +218,8 @@ impl<L: SiteName> Locked<L> {
         ensures err { OnErr result (hold_of self.new account.new ≡ hold_of self.old account.old) }
         ensures few { account.new.share.amount ≤ MOST_ENTRIES }
         ensures kept { KeepsAccount account.old account.new }
-        ensures news { TellsNews back.lease.lb self.new account.old account.new }
+        ensures news { TellsAdded back.lease.lb self.new account.old account.new }
+        ensures uncut { self.new.cut ≡ self.old.cut }
     {
         let HandedBack {
             session,
@@ -243,9 +251,10 @@ impl<L: SiteName> Locked<L> {
         ensures same { self.new.books ≡ self.old.books }
         ensures amount { share.new.amount ≡ share.old.amount }
         ensures parts { share.new.parts ≡ share.old.parts }
-        ensures news { self.new.count ≡ 0 }
+        ensures news { (self.new.count ≡ 0) × (self.new.cut ≡ false) }
     {
         self.site.audit(share);
+        self.cut = false;
         self.count = 0;
         self.site.view(lb)
     }

@@ -93,6 +93,7 @@ impl<'s, 'r, L: SiteName, S: Shelf, R> SharedDesk<'s, 'r, L, S, R> {
         ensures shelf { result.shelf ≡ shelf }
         ensures none { (result.forgotten ≡ 0) × (result.wants ≡ 0) × (result.met ≡ None) }
         ensures nothing_seen { result.seat.seen ≡ [] }
+        ensures no_steps { (result.seat.steps ≡ []) × (result.seat.starts ≡ L.starts) }
         ensures lock { result.seat.lock ≡ lock_of site.now }
     {
         SharedDesk {
@@ -245,7 +246,7 @@ impl<'s, 'r, L: SiteName, S: Shelf, R: Wait> Desk for SharedDesk<'s, 'r, L, S, R
       pair_of,
       without_last,
     };
-    ghost use Rattle.lb_shared.specs.Histories.{DeskMaySee, DeskSees, IsPresentOf, gained_in};
+    ghost use Rattle.lb_shared.specs.Histories.{DeskMaySee, DeskSees, IsPresentOf, cuts_seen, gained_in};
     ghost use Rattle.lb_shared.specs.Holds.{IsAdminMark, IsRoomMark};
     ghost use Rattle.lb_shared.specs.SharedDesks.{PutsAwayOf, first_met};
     ghost use Rattle.lb_model.specs.declared.journal.TheConstants.{MOST_BYTES};
@@ -280,7 +281,8 @@ impl<'s, 'r, L: SiteName, S: Shelf, R: Wait> Desk for SharedDesk<'s, 'r, L, S, R
         // Full comes only with a mark of this balancer, whose numbers leave no room for the entry and its Return.
         ensures mark { IfErr result (IsRoomMark lb 2) }
 
-        // A segment that the hold cut is put away after it. It cuts exactly where the journal has come to its length.
+        // A segment that the hold cut is put away after it. It cuts exactly where the journal has come to its length. The segment is
+        // the journal that the history seen before the cut left of the balancer.
         ensures shelf { PutsAwayOf S.shelved S.faults L.sizes L.cut_at lb self.old self.new (IsErrOf result RoomError.NoMemory) }
 
         // What the desk has seen: a history of the Site that begins with what it had seen, and ends with the entries of this
@@ -365,8 +367,10 @@ impl<'s, 'r, L: SiteName, S: Shelf, R: Wait> Desk for SharedDesk<'s, 'r, L, S, R
         ensures shown { IfOk result (λ shown. Shows self.old.desk lb shown.view) }
         ensures same { self.new ≡ record self.old { seat = self.new.seat } }
 
-        // The view is that of the history that the desk has seen then.
+        // The view is that of the history that the desk has seen then. A look cuts nothing.
         ensures sees { DeskSees L.starts self.old.seat self.new.seat [] }
+        ensures marks { cuts_seen self.new.seat ≡ cuts_seen self.old.seat }
+        ensures starts { self.new.seat.starts ≡ self.old.seat.starts }
         ensures whole { IfOk result (IsPresentOf L.starts self.new.seat.seen lb) }
 
         // Where there is one balancer, all entries of the desk come before the next one.

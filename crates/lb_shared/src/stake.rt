@@ -44,7 +44,7 @@ impl<'s, 'r, L: SiteName, R> Model for Stake<'s, 'r, L, R> {
       room = vec_capacity s.account.receipts;
       forgotten = s.forgotten;
       held = s.held.items;
-      seat = seat_note s.seat.table_id s.seat.me;
+      seat = seat_note L.starts s.seat.table_id s.seat.me;
     } };
 
     // Each entry of the share has a receipt, or had one that was forgotten; there is room for the receipts of the Returns to come;
@@ -52,7 +52,7 @@ impl<'s, 'r, L: SiteName, R> Model for Stake<'s, 'r, L, R> {
     ghost invariant = { λ s. IsShared (length L.sizes) s.account.receipts.items s.held.items s.account.share.parts s.account.share.amount s.forgotten
         (vec_capacity s.account.receipts)
         × (s.seat.table_id ≡ s.site.now.lock.table.shared.table_id) × IsResting s.seat.me
-        × (own_count (seat_note s.seat.table_id s.seat.me) ≡ s.account.share.amount) };
+        × (own_count (seat_note L.starts s.seat.table_id s.seat.me) ≡ s.account.share.amount) };
 }
 
 impl<'s, 'r, L: SiteName, R> Stake<'s, 'r, L, R> {
@@ -61,7 +61,7 @@ impl<'s, 'r, L: SiteName, R> Stake<'s, 'r, L, R> {
     ghost use Rattle.lb_book.specs.Desks.{IsNotOut, holds, pair_of, without_last};
     ghost use Rattle.lb_book.specs.Journal.{Journal, past_of};
     ghost use Rattle.lb_book.specs.ToldBooks.{IsFound};
-    ghost use Rattle.lb_shared.specs.Histories.{DeskMaySee, DeskSees, IsPresentOf, gained_in};
+    ghost use Rattle.lb_shared.specs.Histories.{DeskMaySee, DeskSees, IsPresentOf, MayCut, cuts_seen, gained_in};
     ghost use Rattle.lb_shared.specs.Holds.{IsAdminMark, IsRoomMark, cut_in};
     ghost use Rattle.lb_shared.specs.Locks.{lock_of};
     ghost use Rattle.lb_shared.specs.SharedDesks.{CutsFor};
@@ -79,6 +79,7 @@ impl<'s, 'r, L: SiteName, R> Stake<'s, 'r, L, R> {
         ensures empty { (result.receipts ≡ []) × (result.held ≡ []) × (result.forgotten ≡ 0) }
         ensures share { (result.parts ≡ share.parts) × (result.amount ≡ 0) }
         ensures seat { (result.seat.seen ≡ []) × (result.seat.lock ≡ lock_of site.now) }
+        ensures steps { (result.seat.steps ≡ []) × (result.seat.starts ≡ L.starts) }
     {
         Stake {
             site,
@@ -128,6 +129,7 @@ impl<'s, 'r, L: SiteName, R> Stake<'s, 'r, L, R> {
         ensures mark { IfErr result.1 (IsRoomMark on.lb 2) }
         ensures cuts { CutsFor L.sizes L.cut_at on.lb result.0 self.old.receipts self.new.receipts (IsErrOf result.1 RoomError.NoMemory) }
         ensures sees { DeskMaySee L.starts self.old.seat self.new.seat (gained_in self.old.receipts self.new.receipts) (IsErrOf result.1 RoomError.NoMemory) }
+        ensures marks { MayCut self.old.seat self.new.seat result.0 }
         ensures two { length self.new.receipts ≤ length self.old.receipts + 2 }
         ensures kept { KeepsStake self.old self.new }
     {
@@ -160,6 +162,7 @@ impl<'s, 'r, L: SiteName, R> Stake<'s, 'r, L, R> {
         ensures mark { IfErr result.1 (IsAdminMark on.lb) }
         ensures cuts { CutsFor L.sizes L.cut_at on.lb result.0 self.old.receipts self.new.receipts (IsErrOf result.1 AdminError.NoMemory) }
         ensures sees { DeskMaySee L.starts self.old.seat self.new.seat (gained_in self.old.receipts self.new.receipts) (IsErrOf result.1 AdminError.NoMemory) }
+        ensures marks { MayCut self.old.seat self.new.seat result.0 }
         ensures two { length self.new.receipts ≤ length self.old.receipts + 2 }
         ensures kept { KeepsStake self.old self.new }
     {
@@ -190,6 +193,7 @@ impl<'s, 'r, L: SiteName, R> Stake<'s, 'r, L, R> {
         ensures held { self.new.held ≡ without_last self.old.held (pair_of back.lease) }
         ensures cuts { CutsFor L.sizes L.cut_at back.lease.lb (cut_in result.0) self.old.receipts self.new.receipts (IsErr result.0) }
         ensures sees { DeskSees L.starts self.old.seat self.new.seat (gained_in self.old.receipts self.new.receipts) }
+        ensures marks { MayCut self.old.seat self.new.seat (cut_in result.0) }
         ensures one { length self.new.receipts ≤ length self.old.receipts + 1 }
         ensures kept { KeepsStake self.old self.new }
     {
@@ -215,6 +219,8 @@ impl<'s, 'r, L: SiteName, R> Stake<'s, 'r, L, R> {
         ensures whole { IfOk result (IsPresentOf L.starts self.new.seat.seen lb) }
         ensures next { IfOk result (λ v. length L.sizes ≡ 1 → slice_index L.firsts lb + self.old.amount ≤ v.view.next) }
         ensures sees { DeskSees L.starts self.old.seat self.new.seat [] }
+        ensures marks { cuts_seen self.new.seat ≡ cuts_seen self.old.seat }
+        ensures starts { self.new.seat.starts ≡ self.old.seat.starts }
         ensures same { self.new ≡ record self.old { seat = self.new.seat } }
     {
         self.site.lock.enter(self.site.rt, &mut self.seat);

@@ -1,4 +1,4 @@
-//! The lock of a Site, and what its history says of it.
+//! The lock of a Site, and what its history says of it: a list of steps, each an entry that was added to a balancer, or a cut of its journal.
 
 use crate::locked::Locked;
 use crate::site::SiteName;
@@ -6,19 +6,20 @@ use crate::{HistoryLock, LockSeat, Telling};
 use lb_model::Entry;
 use std::marker::PhantomData;
 
-/// What a history of receipts says of a Site.
+/// What a history of steps says of a Site.
 pub(crate) struct SiteTells<L> {
     of: PhantomData<L>,
 }
 
-impl<L: SiteName> Telling<Locked<L>, (u32, Entry)> for SiteTells<L> {
-    ghost use Rattle.lb_shared.specs.Histories.{IsSiteHistory, last_in};
+impl<L: SiteName> Telling<Locked<L>, (u32, Option<Entry>)> for SiteTells<L> {
+    ghost use Rattle.lb_shared.specs.Histories.{IsMadeBy};
+    ghost use Rattle.lb_shared.specs.Holds.{last_steps};
 
-    ghost tells = { λ log locked. IsSiteHistory L.starts log locked.books };
+    ghost tells = { λ steps locked. IsMadeBy L.starts steps locked.books };
 
-    ghost news = { λ locked. last_in locked.books locked.lb locked.count };
+    ghost news = { λ locked. last_steps locked };
 }
 
-pub(crate) type SiteLock<L> = HistoryLock<Locked<L>, (u32, Entry), SiteTells<L>>;
+pub(crate) type SiteLock<L> = HistoryLock<Locked<L>, (u32, Option<Entry>), SiteTells<L>>;
 
-pub(crate) type SiteSeat<L> = LockSeat<Locked<L>, (u32, Entry)>;
+pub(crate) type SiteSeat<L> = LockSeat<Locked<L>, (u32, Option<Entry>)>;

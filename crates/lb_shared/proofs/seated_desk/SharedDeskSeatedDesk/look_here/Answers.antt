@@ -10,4 +10,5 @@ returns-clause-gone g c = λ since first.
 
 pub returns-clause-shelf : goal.returns-clause-shelf
 returns-clause-shelf g c =
-    shelved_same g.S.Shelf.shelved g.S.Shelf.faults _ _ _ _ _ _ (ap (λ d. d.shelf) c.look.ensures.same) (ap (λ d. d.wants) c.look.ensures.same) (ap (λ d. d.forgotten) c.look.ensures.same)
+    shelved_same g.S.Shelf.shelved g.S.Shelf.faults c.args.self.now c.look.new.self (ap (λ d. d.shelf) c.look.ensures.same) (ap (λ d. d.wants) c.look.ensures.same) (ap (λ d. d.forgotten) c.look.ensures.same)
+    c.look.ensures.starts c.look.ensures.marks

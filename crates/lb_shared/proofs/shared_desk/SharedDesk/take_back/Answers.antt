@@ -13,6 +13,8 @@ returns-in-Ok-clause-shelf g c =
           (sym c.put_cut-kept.ensures.err) c.give_back-cut.ensures.cuts.when;
       next = c.give_back-cut.ensures.cuts.next;
       put = c.put_cut-kept.ensures.put;
+      told = c.give_back-cut.ensures.marks;
+      starts = c.give_back-cut.ensures.kept.2;
       forgotten = c.give_back-cut.ensures.kept.1;
     })
 
@@ -25,5 +27,7 @@ returns-in-Err-clause-shelf g c =
           (sym c.put_cut-kept.ensures.err) c.give_back-cut.ensures.cuts.when;
       next = c.give_back-cut.ensures.cuts.next;
       put = c.put_cut-kept.ensures.put;
+      told = c.give_back-cut.ensures.marks;
+      starts = c.give_back-cut.ensures.kept.2;
       forgotten = c.give_back-cut.ensures.kept.1;
     })

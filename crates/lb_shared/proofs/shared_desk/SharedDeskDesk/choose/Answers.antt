@@ -24,6 +24,8 @@ returns-clause-shelf g c =
       when = c.choose-segment.ensures.cuts.when;
       next = c.choose-segment.ensures.cuts.next;
       put = c.put_away.ensures;
+      told = c.choose-segment.ensures.marks;
+      starts = c.choose-segment.ensures.kept.2;
       forgotten = c.choose-segment.ensures.kept.1;
     })
 

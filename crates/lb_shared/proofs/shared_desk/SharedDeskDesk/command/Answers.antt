@@ -24,6 +24,8 @@ returns-clause-shelf g c =
       when = c.command-segment.ensures.cuts.when;
       next = c.command-segment.ensures.cuts.next;
       put = c.put_away.ensures;
+      told = c.command-segment.ensures.marks;
+      starts = c.command-segment.ensures.kept.2;
       forgotten = c.command-segment.ensures.kept.1;
     })
 

@@ -1,14 +1,13 @@
 use Rattle.std.proofs.Common.{◌≡◌, ℕ, List, [], ◌∷◌, ◌++◌, map, sym, ap, ◌∙◌, subst, append-nil, append_assoc, arith}
 use Rattle.std.specs.List.{All}
-use Rattle.std.proofs.lemmas.List.Elements.{All-head, All-tail}
+use Rattle.std.proofs.lemmas.List.Elements.{All-append, All-cons, All-head, All-nil, All-tail}
 use mathlib.Core.Option.{some}
 use lib.ListN.{get_elem?}
-use Rattle.lb_model.specs.declared.journal.Entry.{Entry}
 use Rattle.lb_book.specs.Journal.{Journal}
 use Rattle.lb_shared.specs.Seats.{AreApart, IsClaim}
 use Rattle.lb_shared.specs.declared.view.Claim.{Claim}
-use Rattle.lb_shared.specs.Histories.{IsSiteHistory, SeatNote}
-use Rattle.lb_shared.proofs.LeftLaws.{claim_of, closed_by, joined_more, no_seats}
+use Rattle.lb_shared.specs.Histories.{IsMadeBy, SeatNote, Step}
+use Rattle.lb_shared.proofs.LeftLaws.{IsTold, claim_of, closed_by, joined_more, no_seats}
 use Rattle.lb_shared.proofs.shared_site.SharedSite.into_site.Goals as goal
 
 pub loop-other-init : goal.loop-other-init
@@ -18,6 +17,7 @@ loop-other-init g c =
       here = subst (λ (ss : List SeatNote). All (λ s. s.lock ≡ c.args.self.lock.table.shared.table_id) ss) (sym all) c.requires.here;
       table = c.seat-seat.ensures.of;
       done = [];
+      told = All-nil (IsTold g.L.SiteName.starts);
       split = all;
       number = c.seat-seat.ensures.new.0;
       joined = c.seat-seat.ensures.new.1;
@@ -45,6 +45,8 @@ loop-other-preserved g c =
           (subst (λ (ss : List SeatNote). All (λ s. s.lock ≡ c.args.self.lock.table.shared.table_id) ss) is I.here);
       table = c.join.ensures.of ∙ I.table;
       done = I.done ++ c.in-Some.other ∷ [];
+      told = All-append (IsTold g.L.SiteName.starts) I.done (c.in-Some.other ∷ []) I.told
+          (All-cons (IsTold g.L.SiteName.starts) c.in-Some.other [] c.into_seat.ensures.seen (All-nil (IsTold g.L.SiteName.starts)));
       split = append_assoc I.done (c.in-Some.other ∷ []) _ ∙ ap (λ (ss : List SeatNote). I.done ++ ss) (sym is) ∙ I.split;
       number = I.number;
       joined = joined_more I.number I.done c.in-Some.other c.loop-other.seat.me c.into_seat.result.me c.join.new.seat.me I.joined c.into_seat.ensures.me c.join.ensures.both;
@@ -63,6 +65,7 @@ returns g c =
     let all : I.done ≡ c.args.seats = sym (append-nil I.done) ∙ ap (λ (ss : List SeatNote). I.done ++ ss) (sym none) ∙ I.split in
     let claims = ap (λ m. m.0.claims) I.joined ∙ ap (λ (ss : List SeatNote). record { number = I.number; seen = [] } ∷ map claim_of ss) all in
     closed_by g.L.SiteName.starts c.into_site.result c.close.ensures.log (record { number = I.number; seen = [] }) c.args.seats
-    (subst (λ (bs : List Journal). IsSiteHistory g.L.SiteName.starts c.close.ensures.log bs) (sym c.into_site.ensures) c.close.ensures.told)
-    (subst (λ (cs : List (Claim (ℕ × Entry))). (k : ℕ) (x : Claim (ℕ × Entry)) → get_elem? cs k ≡ some x → IsClaim c.close.ensures.log x) claims c.close.ensures.true_of)
-    (subst (λ (cs : List (Claim (ℕ × Entry))). AreApart cs) claims c.close.ensures.apart)
+    (subst (λ (bs : List Journal). IsMadeBy g.L.SiteName.starts c.close.ensures.log bs) (sym c.into_site.ensures) c.close.ensures.told)
+    (subst (λ (ss : List SeatNote). All (IsTold g.L.SiteName.starts) ss) all I.told)
+    (subst (λ (cs : List (Claim Step)). (k : ℕ) (x : Claim Step) → get_elem? cs k ≡ some x → IsClaim c.close.ensures.log x) claims c.close.ensures.true_of)
+    (subst (λ (cs : List (Claim Step)). AreApart cs) claims c.close.ensures.apart)

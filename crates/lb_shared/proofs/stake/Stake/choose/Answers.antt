@@ -2,15 +2,13 @@
 use Rattle.std.proofs.Common.{◌≡◌, ℕ, ◌+◌, ◌≤◌, List, ◌∷◌, ◌++◌, length, Some, refl, subst, sym, ap, ◌∙◌, inl, arith}
 use Rattle.std.specs.Prelude.{IfErr, IfOk, OnErr, vec_capacity}
 use Rattle.atomic_table.specs.Table.{rest}
-use Rattle.lb_model.specs.declared.journal.Entry.{Entry}
 use Rattle.lb_book.specs.declared.receipt.Receipt.{Receipt}
-use Rattle.lb_shared.specs.Seats.{by_seat}
-use Rattle.lb_shared.specs.Histories.{IsSiteHistory, SeatSees, gained_in, last_in}
-use Rattle.lb_shared.specs.Holds.{LockedState, held}
+use Rattle.lb_shared.specs.Histories.{SeatSees, gained_in}
+use Rattle.lb_shared.specs.Holds.{held}
 use Rattle.lb_shared.specs.SharedDesks.{pairs_of}
 use Rattle.lb_shared.proofs.CountLaws.{count_sees}
-use Rattle.lb_shared.proofs.HistoryLaws.{choose_history}
-use Rattle.lb_shared.proofs.SeatLaws.{desk_sees, found_history, seat_sees, told_last}
+use Rattle.lb_shared.proofs.JournalLaws.{choose_history}
+use Rattle.lb_shared.proofs.SeatLaws.{desk_sees, seat_cuts, seat_sees, told_last}
 use Rattle.lb_shared.proofs.SharedLaws.{ChoseErr, ChoseOk, cut_choose, err_choose, gained_choose, kept_choose, next_choose, none_desk, ok_choose, two_chosen}
 use Rattle.lb_shared.proofs.stake.Stake.choose.Goals as goal
 
@@ -21,34 +19,31 @@ slot_mut-requires g c =
 
 pub leave-requires-clause-told : goal.leave-requires-clause-told
 leave-requires-clause-told g c =
-    told_last g.L.SiteName.starts (λ (t : LockedState). t.books) (λ (t : LockedState). last_in t.books t.lb t.count) c.self.inside.seat.me c.enter.new.seat.me c.self.invariant.2 c.enter.ensures.took
+    told_last g.L.SiteName.starts c.self.inside.seat.me c.enter.new.seat.me c.self.invariant.2 c.enter.ensures.took
     c.slot_mut.result.now c.slot_mut.ensures.value c.in-Some.locked c.in-Some.is c.choose-done.new.self
-    (λ n log was.
-    let grew = choose_history g.L.SiteName.starts n log g.L.SiteName.sizes g.L.SiteName.firsts c.in-Some.locked.books (held c.choose-done.new.self.books c.choose-done.new.account.receipts.items c.choose-done.new.account.share.amount) c.take_room.new.account.receipts.items c.take_room.new.account.share.amount c.args.on c.args.ask.now c.choose-done.result.0 c.choose-done.result.1 c.requires.known c.choose-done.ensures.ok c.choose-done.ensures.err was in
-    let news_is : last_in c.choose-done.new.self.books c.choose-done.new.self.lb c.choose-done.new.self.count ≡ gained_in c.take_room.new.account.receipts.items c.choose-done.new.account.receipts.items =
-    ap (λ (k : ℕ). last_in c.choose-done.new.self.books k c.choose-done.new.self.count) c.choose-done.ensures.news.0
-    ∙ ap (λ (k : ℕ). last_in c.choose-done.new.self.books c.args.on.lb k) c.choose-done.ensures.news.1 ∙ grew.last in
-    subst (λ (es : List (ℕ × Entry)). IsSiteHistory g.L.SiteName.starts (log ++ by_seat n es) c.choose-done.new.self.books) (sym news_is) grew.history)
+    c.take_room.new.account.receipts.items c.choose-done.new.account.receipts.items c.args.on.lb c.choose-done.result.0 c.choose-done.ensures.news
+    (λ n steps was.
+    choose_history g.L.SiteName.starts n steps g.L.SiteName.sizes g.L.SiteName.firsts c.in-Some.locked.books (held c.choose-done.new.self.books c.choose-done.new.account.receipts.items c.choose-done.new.account.share.amount) c.take_room.new.account.receipts.items c.take_room.new.account.share.amount c.args.on c.args.ask.now c.choose-done.result.0 c.choose-done.result.1 c.requires.known c.choose-done.ensures.ok c.choose-done.ensures.err was)
 
 pub returns-clause-sees : goal.returns-clause-sees
 returns-clause-sees g c =
-    let n0 : ℕ = 0 in
-    let log0 = c.enter.ensures.took.log in
-    let was0 = found_history g.L.SiteName.starts (λ (t : LockedState). t.books) (λ (t : LockedState). last_in t.books t.lb t.count) c.self.inside.seat.me c.enter.new.seat.me c.self.invariant.2 c.enter.ensures.took
-    c.slot_mut.result.now c.slot_mut.ensures.value c.in-Some.locked c.in-Some.is in
-    let grew0 = choose_history g.L.SiteName.starts n0 log0 g.L.SiteName.sizes g.L.SiteName.firsts c.in-Some.locked.books (held c.choose-done.new.self.books c.choose-done.new.account.receipts.items c.choose-done.new.account.share.amount) c.take_room.new.account.receipts.items c.take_room.new.account.share.amount c.args.on c.args.ask.now c.choose-done.result.0 c.choose-done.result.1 c.requires.known c.choose-done.ensures.ok c.choose-done.ensures.err was0 in
-    let news_is : last_in c.choose-done.new.self.books c.choose-done.new.self.lb c.choose-done.new.self.count ≡ gained_in c.take_room.new.account.receipts.items c.choose-done.new.account.receipts.items =
-    ap (λ (k : ℕ). last_in c.choose-done.new.self.books k c.choose-done.new.self.count) c.choose-done.ensures.news.0
-    ∙ ap (λ (k : ℕ). last_in c.choose-done.new.self.books c.args.on.lb k) c.choose-done.ensures.news.1 ∙ grew0.last in
-    let sees = subst (λ (es : List (ℕ × Entry)). SeatSees g.L.SiteName.starts c.self.inside.seat.me c.leave.new.seat.me es) news_is
-    (seat_sees g.L.SiteName.starts (λ (t : LockedState). t.books) (λ (t : LockedState). last_in t.books t.lb t.count) c.self.inside.seat.me c.enter.new.seat.me c.self.invariant.2 c.enter.ensures.took
+    let sees = seat_sees g.L.SiteName.starts c.self.inside.seat.me c.enter.new.seat.me c.self.invariant.2 c.enter.ensures.took
     c.slot_mut.result.now c.slot_mut.ensures.value c.in-Some.locked c.in-Some.is c.choose-done.new.self
-    (λ n log was.
-    let grew = choose_history g.L.SiteName.starts n log g.L.SiteName.sizes g.L.SiteName.firsts c.in-Some.locked.books (held c.choose-done.new.self.books c.choose-done.new.account.receipts.items c.choose-done.new.account.share.amount) c.take_room.new.account.receipts.items c.take_room.new.account.share.amount c.args.on c.args.ask.now c.choose-done.result.0 c.choose-done.result.1 c.requires.known c.choose-done.ensures.ok c.choose-done.ensures.err was in
-    subst (λ (es : List (ℕ × Entry)). IsSiteHistory g.L.SiteName.starts (log ++ by_seat n es) c.choose-done.new.self.books) (sym news_is) grew.history) c.leave.new.seat.me c.leave.ensures.left) in
+    c.take_room.new.account.receipts.items c.choose-done.new.account.receipts.items c.args.on.lb c.choose-done.result.0 c.choose-done.ensures.news
+    (λ n steps was.
+    choose_history g.L.SiteName.starts n steps g.L.SiteName.sizes g.L.SiteName.firsts c.in-Some.locked.books (held c.choose-done.new.self.books c.choose-done.new.account.receipts.items c.choose-done.new.account.share.amount) c.take_room.new.account.receipts.items c.take_room.new.account.share.amount c.args.on c.args.ask.now c.choose-done.result.0 c.choose-done.result.1 c.requires.known c.choose-done.ensures.ok c.choose-done.ensures.err was) c.leave.new.seat.me c.leave.ensures.left in
     let seen = subst (λ (rs : List Receipt). SeatSees g.L.SiteName.starts c.self.inside.seat.me c.leave.new.seat.me (gained_in rs c.choose-done.new.account.receipts.items)) c.take_room.ensures.receipts sees in
     rw (sym c.self.view_is)
-    (inl (desk_sees g.L.SiteName.starts _ _ c.self.inside.seat.me c.leave.new.seat.me _ (c.leave.ensures.of ∙ c.enter.ensures.of) seen))
+    (inl (desk_sees g.L.SiteName.starts _ _ _ _ c.self.inside.seat.me c.leave.new.seat.me _ (c.leave.ensures.of ∙ c.enter.ensures.of) seen))
+
+pub returns-clause-marks : goal.returns-clause-marks
+returns-clause-marks g c =
+    rw (sym c.self.view_is)
+    (seat_cuts g.L.SiteName.starts c.self.inside.seat.me c.enter.new.seat.me c.self.invariant.2 c.enter.ensures.took
+    c.slot_mut.result.now c.slot_mut.ensures.value c.in-Some.locked c.in-Some.is c.choose-done.new.self
+    c.take_room.new.account.receipts.items c.choose-done.new.account.receipts.items c.args.on.lb c.choose-done.result.0 c.choose-done.ensures.news
+    (λ n steps was.
+    choose_history g.L.SiteName.starts n steps g.L.SiteName.sizes g.L.SiteName.firsts c.in-Some.locked.books (held c.choose-done.new.self.books c.choose-done.new.account.receipts.items c.choose-done.new.account.share.amount) c.take_room.new.account.receipts.items c.take_room.new.account.share.amount c.args.on c.args.ask.now c.choose-done.result.0 c.choose-done.result.1 c.requires.known c.choose-done.ensures.ok c.choose-done.ensures.err was) c.leave.new.seat.me c.leave.ensures.left _ _)
 
 pub returns-clause-ok : goal.returns-clause-ok
 returns-clause-ok g c =
@@ -112,20 +107,11 @@ returns-clause-two g c =
 
 pub invariant_of-self-2 : goal.invariant_of-self-2
 invariant_of-self-2 g c =
-    let n0 : ℕ = 0 in
-    let log0 = c.enter.ensures.took.log in
-    let was0 = found_history g.L.SiteName.starts (λ (t : LockedState). t.books) (λ (t : LockedState). last_in t.books t.lb t.count) c.self.inside.seat.me c.enter.new.seat.me c.self.invariant.2 c.enter.ensures.took
-    c.slot_mut.result.now c.slot_mut.ensures.value c.in-Some.locked c.in-Some.is in
-    let grew0 = choose_history g.L.SiteName.starts n0 log0 g.L.SiteName.sizes g.L.SiteName.firsts c.in-Some.locked.books (held c.choose-done.new.self.books c.choose-done.new.account.receipts.items c.choose-done.new.account.share.amount) c.take_room.new.account.receipts.items c.take_room.new.account.share.amount c.args.on c.args.ask.now c.choose-done.result.0 c.choose-done.result.1 c.requires.known c.choose-done.ensures.ok c.choose-done.ensures.err was0 in
-    let news_is : last_in c.choose-done.new.self.books c.choose-done.new.self.lb c.choose-done.new.self.count ≡ gained_in c.take_room.new.account.receipts.items c.choose-done.new.account.receipts.items =
-    ap (λ (k : ℕ). last_in c.choose-done.new.self.books k c.choose-done.new.self.count) c.choose-done.ensures.news.0
-    ∙ ap (λ (k : ℕ). last_in c.choose-done.new.self.books c.args.on.lb k) c.choose-done.ensures.news.1 ∙ grew0.last in
-    let sees = subst (λ (es : List (ℕ × Entry)). SeatSees g.L.SiteName.starts c.self.inside.seat.me c.leave.new.seat.me es) news_is
-    (seat_sees g.L.SiteName.starts (λ (t : LockedState). t.books) (λ (t : LockedState). last_in t.books t.lb t.count) c.self.inside.seat.me c.enter.new.seat.me c.self.invariant.2 c.enter.ensures.took
+    let sees = seat_sees g.L.SiteName.starts c.self.inside.seat.me c.enter.new.seat.me c.self.invariant.2 c.enter.ensures.took
     c.slot_mut.result.now c.slot_mut.ensures.value c.in-Some.locked c.in-Some.is c.choose-done.new.self
-    (λ n log was.
-    let grew = choose_history g.L.SiteName.starts n log g.L.SiteName.sizes g.L.SiteName.firsts c.in-Some.locked.books (held c.choose-done.new.self.books c.choose-done.new.account.receipts.items c.choose-done.new.account.share.amount) c.take_room.new.account.receipts.items c.take_room.new.account.share.amount c.args.on c.args.ask.now c.choose-done.result.0 c.choose-done.result.1 c.requires.known c.choose-done.ensures.ok c.choose-done.ensures.err was in
-    subst (λ (es : List (ℕ × Entry)). IsSiteHistory g.L.SiteName.starts (log ++ by_seat n es) c.choose-done.new.self.books) (sym news_is) grew.history) c.leave.new.seat.me c.leave.ensures.left) in
+    c.take_room.new.account.receipts.items c.choose-done.new.account.receipts.items c.args.on.lb c.choose-done.result.0 c.choose-done.ensures.news
+    (λ n steps was.
+    choose_history g.L.SiteName.starts n steps g.L.SiteName.sizes g.L.SiteName.firsts c.in-Some.locked.books (held c.choose-done.new.self.books c.choose-done.new.account.receipts.items c.choose-done.new.account.share.amount) c.take_room.new.account.receipts.items c.take_room.new.account.share.amount c.args.on c.args.ask.now c.choose-done.result.0 c.choose-done.result.1 c.requires.known c.choose-done.ensures.ok c.choose-done.ensures.err was) c.leave.new.seat.me c.leave.ensures.left in
     let seen = subst (λ (rs : List Receipt). SeatSees g.L.SiteName.starts c.self.inside.seat.me c.leave.new.seat.me (gained_in rs c.choose-done.new.account.receipts.items)) c.take_room.ensures.receipts sees in
     let am_is : c.take_room.new.account.share.amount ≡ c.self.inside.account.share.amount = rw c.take_room.ensures.share refl in
     let part_is : c.take_room.new.account.share.parts ≡ c.self.inside.account.share.parts = rw c.take_room.ensures.share refl in
@@ -153,3 +139,6 @@ returns-in-Err-clause-err g c =
     rw (sym c.self.view_is) (rw (c.take_room.ensures.share) (λ s f w f' w' m.
     none_desk g.L.SiteName.sizes c.self.inside.account.share.parts c.self.inside.account.receipts.items c.take_room.new.account.receipts.items c.self.inside.held.items c.take_room.new.held.items c.self.inside.account.share.amount s f w f' w' m
     c.args.on.lb c.args.on.session c.args.on.at _ _ c.take_room.ensures.receipts refl))
+
+pub returns-in-Err-clause-marks : goal.returns-in-Err-clause-marks
+returns-in-Err-clause-marks g c = rw (sym c.self.view_is) refl

@@ -1,16 +1,13 @@
 -- A hold of the lock that takes a lease back, and what the desk's stake is then.
-use Rattle.std.proofs.Common.{◌≡◌, ℕ, true, List, ◌∷◌, ◌++◌, length, Some, subst, sym, ap, ◌∙◌, arith}
+use Rattle.std.proofs.Common.{◌≡◌, ℕ, true, ◌∷◌, length, Some, subst, sym, ap, ◌∙◌, arith}
 use Rattle.std.specs.Prelude.{vec_capacity}
 use Rattle.atomic_table.specs.Table.{rest}
-use Rattle.lb_model.specs.declared.journal.Entry.{Entry}
 use Rattle.lb_book.specs.Desks.{holds, without_last}
-use Rattle.lb_shared.specs.Seats.{by_seat}
-use Rattle.lb_shared.specs.Histories.{IsSiteHistory, SeatSees, gained_in, last_in}
-use Rattle.lb_shared.specs.Holds.{LockedState, cut_in, held}
+use Rattle.lb_shared.specs.Holds.{cut_in, held}
 use Rattle.lb_shared.specs.Stakes.{StakeState}
 use Rattle.lb_shared.proofs.CountLaws.{count_returned}
-use Rattle.lb_shared.proofs.HistoryLaws.{back_history}
-use Rattle.lb_shared.proofs.SeatLaws.{desk_sees, found_history, seat_sees, told_last}
+use Rattle.lb_shared.proofs.JournalLaws.{back_history}
+use Rattle.lb_shared.proofs.SeatLaws.{desk_sees, seat_cuts, seat_sees, told_last}
 use Rattle.lb_shared.proofs.SharedLaws.{back_amount, back_err, back_length, back_ok, cut_back, held-some, known_held, next_back, one_back, shared_returned}
 use Rattle.lb_shared.proofs.stake.Stake.give_back.Goals as goal
 
@@ -35,35 +32,34 @@ pub leave-requires-clause-told : goal.leave-requires-clause-told
 leave-requires-clause-told g c =
     let had = subst (λ (s : StakeState). holds s.held (c.args.back.lease.lb, c.args.back.lease.ticket) ≡ true) (sym c.self.view_is) c.requires.held in
     let known = known_held (length g.L.SiteName.sizes) c.self.inside.held.items (c.args.back.lease.lb, c.args.back.lease.ticket) c.self.invariant.0.known had in
-    told_last g.L.SiteName.starts (λ (t : LockedState). t.books) (λ (t : LockedState). last_in t.books t.lb t.count) c.self.inside.seat.me c.enter.new.seat.me c.self.invariant.2 c.enter.ensures.took
+    told_last g.L.SiteName.starts c.self.inside.seat.me c.enter.new.seat.me c.self.invariant.2 c.enter.ensures.took
     c.slot_mut.result.now c.slot_mut.ensures.value c.in-Some.locked c.in-Some.is c.give_back-done.new.self
-    (λ n log was.
-    let grew = back_history g.L.SiteName.starts n log g.L.SiteName.sizes g.L.SiteName.firsts c.in-Some.locked.books (held c.give_back-done.new.self.books c.give_back-done.new.account.receipts.items c.give_back-done.new.account.share.amount) c.self.inside.account.receipts.items c.self.inside.account.share.amount c.args.back.session c.args.back.at c.args.back.lease c.args.back.outcome (cut_in c.give_back-done.result.0) c.give_back-done.result.1 known c.give_back-done.ensures.ok c.give_back-done.ensures.err was in
-    let news_is : last_in c.give_back-done.new.self.books c.give_back-done.new.self.lb c.give_back-done.new.self.count ≡ gained_in c.self.inside.account.receipts.items c.give_back-done.new.account.receipts.items =
-    ap (λ (k : ℕ). last_in c.give_back-done.new.self.books k c.give_back-done.new.self.count) c.give_back-done.ensures.news.0
-    ∙ ap (λ (k : ℕ). last_in c.give_back-done.new.self.books c.args.back.lease.lb k) c.give_back-done.ensures.news.1 ∙ grew.last in
-    subst (λ (es : List (ℕ × Entry)). IsSiteHistory g.L.SiteName.starts (log ++ by_seat n es) c.give_back-done.new.self.books) (sym news_is) grew.history)
+    c.self.inside.account.receipts.items c.give_back-done.new.account.receipts.items c.args.back.lease.lb (cut_in c.give_back-done.result.0) c.give_back-done.ensures.news
+    (λ n steps was.
+    back_history g.L.SiteName.starts n steps g.L.SiteName.sizes g.L.SiteName.firsts c.in-Some.locked.books (held c.give_back-done.new.self.books c.give_back-done.new.account.receipts.items c.give_back-done.new.account.share.amount) c.self.inside.account.receipts.items c.self.inside.account.share.amount c.args.back.session c.args.back.at c.args.back.lease c.args.back.outcome (cut_in c.give_back-done.result.0) c.give_back-done.result.1 known c.give_back-done.ensures.ok c.give_back-done.ensures.err was)
 
 pub returns-clause-sees : goal.returns-clause-sees
 returns-clause-sees g c =
     let had = subst (λ (s : StakeState). holds s.held (c.args.back.lease.lb, c.args.back.lease.ticket) ≡ true) (sym c.self.view_is) c.requires.held in
     let known = known_held (length g.L.SiteName.sizes) c.self.inside.held.items (c.args.back.lease.lb, c.args.back.lease.ticket) c.self.invariant.0.known had in
-    let n0 : ℕ = 0 in
-    let log0 = c.enter.ensures.took.log in
-    let was0 = found_history g.L.SiteName.starts (λ (t : LockedState). t.books) (λ (t : LockedState). last_in t.books t.lb t.count) c.self.inside.seat.me c.enter.new.seat.me c.self.invariant.2 c.enter.ensures.took
-    c.slot_mut.result.now c.slot_mut.ensures.value c.in-Some.locked c.in-Some.is in
-    let grew0 = back_history g.L.SiteName.starts n0 log0 g.L.SiteName.sizes g.L.SiteName.firsts c.in-Some.locked.books (held c.give_back-done.new.self.books c.give_back-done.new.account.receipts.items c.give_back-done.new.account.share.amount) c.self.inside.account.receipts.items c.self.inside.account.share.amount c.args.back.session c.args.back.at c.args.back.lease c.args.back.outcome (cut_in c.give_back-done.result.0) c.give_back-done.result.1 known c.give_back-done.ensures.ok c.give_back-done.ensures.err was0 in
-    let news_is : last_in c.give_back-done.new.self.books c.give_back-done.new.self.lb c.give_back-done.new.self.count ≡ gained_in c.self.inside.account.receipts.items c.give_back-done.new.account.receipts.items =
-    ap (λ (k : ℕ). last_in c.give_back-done.new.self.books k c.give_back-done.new.self.count) c.give_back-done.ensures.news.0
-    ∙ ap (λ (k : ℕ). last_in c.give_back-done.new.self.books c.args.back.lease.lb k) c.give_back-done.ensures.news.1 ∙ grew0.last in
-    let sees = subst (λ (es : List (ℕ × Entry)). SeatSees g.L.SiteName.starts c.self.inside.seat.me c.leave.new.seat.me es) news_is
-    (seat_sees g.L.SiteName.starts (λ (t : LockedState). t.books) (λ (t : LockedState). last_in t.books t.lb t.count) c.self.inside.seat.me c.enter.new.seat.me c.self.invariant.2 c.enter.ensures.took
+    let sees = seat_sees g.L.SiteName.starts c.self.inside.seat.me c.enter.new.seat.me c.self.invariant.2 c.enter.ensures.took
     c.slot_mut.result.now c.slot_mut.ensures.value c.in-Some.locked c.in-Some.is c.give_back-done.new.self
-    (λ n log was.
-    let grew = back_history g.L.SiteName.starts n log g.L.SiteName.sizes g.L.SiteName.firsts c.in-Some.locked.books (held c.give_back-done.new.self.books c.give_back-done.new.account.receipts.items c.give_back-done.new.account.share.amount) c.self.inside.account.receipts.items c.self.inside.account.share.amount c.args.back.session c.args.back.at c.args.back.lease c.args.back.outcome (cut_in c.give_back-done.result.0) c.give_back-done.result.1 known c.give_back-done.ensures.ok c.give_back-done.ensures.err was in
-    subst (λ (es : List (ℕ × Entry)). IsSiteHistory g.L.SiteName.starts (log ++ by_seat n es) c.give_back-done.new.self.books) (sym news_is) grew.history) c.leave.new.seat.me c.leave.ensures.left) in
+    c.self.inside.account.receipts.items c.give_back-done.new.account.receipts.items c.args.back.lease.lb (cut_in c.give_back-done.result.0) c.give_back-done.ensures.news
+    (λ n steps was.
+    back_history g.L.SiteName.starts n steps g.L.SiteName.sizes g.L.SiteName.firsts c.in-Some.locked.books (held c.give_back-done.new.self.books c.give_back-done.new.account.receipts.items c.give_back-done.new.account.share.amount) c.self.inside.account.receipts.items c.self.inside.account.share.amount c.args.back.session c.args.back.at c.args.back.lease c.args.back.outcome (cut_in c.give_back-done.result.0) c.give_back-done.result.1 known c.give_back-done.ensures.ok c.give_back-done.ensures.err was) c.leave.new.seat.me c.leave.ensures.left in
     rw (sym c.self.view_is)
-    (desk_sees g.L.SiteName.starts _ _ c.self.inside.seat.me c.leave.new.seat.me _ (c.leave.ensures.of ∙ c.enter.ensures.of) sees)
+    (desk_sees g.L.SiteName.starts _ _ _ _ c.self.inside.seat.me c.leave.new.seat.me _ (c.leave.ensures.of ∙ c.enter.ensures.of) sees)
+
+pub returns-clause-marks : goal.returns-clause-marks
+returns-clause-marks g c =
+    let had = subst (λ (s : StakeState). holds s.held (c.args.back.lease.lb, c.args.back.lease.ticket) ≡ true) (sym c.self.view_is) c.requires.held in
+    let known = known_held (length g.L.SiteName.sizes) c.self.inside.held.items (c.args.back.lease.lb, c.args.back.lease.ticket) c.self.invariant.0.known had in
+    rw (sym c.self.view_is)
+    (seat_cuts g.L.SiteName.starts c.self.inside.seat.me c.enter.new.seat.me c.self.invariant.2 c.enter.ensures.took
+    c.slot_mut.result.now c.slot_mut.ensures.value c.in-Some.locked c.in-Some.is c.give_back-done.new.self
+    c.self.inside.account.receipts.items c.give_back-done.new.account.receipts.items c.args.back.lease.lb (cut_in c.give_back-done.result.0) c.give_back-done.ensures.news
+    (λ n steps was.
+    back_history g.L.SiteName.starts n steps g.L.SiteName.sizes g.L.SiteName.firsts c.in-Some.locked.books (held c.give_back-done.new.self.books c.give_back-done.new.account.receipts.items c.give_back-done.new.account.share.amount) c.self.inside.account.receipts.items c.self.inside.account.share.amount c.args.back.session c.args.back.at c.args.back.lease c.args.back.outcome (cut_in c.give_back-done.result.0) c.give_back-done.result.1 known c.give_back-done.ensures.ok c.give_back-done.ensures.err was) c.leave.new.seat.me c.leave.ensures.left _ _)
 
 pub returns-clause-ok : goal.returns-clause-ok
 returns-clause-ok g c =
@@ -105,20 +101,11 @@ pub invariant_of-self : goal.invariant_of-self
 invariant_of-self g c =
     let had = subst (λ (s : StakeState). holds s.held (c.args.back.lease.lb, c.args.back.lease.ticket) ≡ true) (sym c.self.view_is) c.requires.held in
     let known = known_held (length g.L.SiteName.sizes) c.self.inside.held.items (c.args.back.lease.lb, c.args.back.lease.ticket) c.self.invariant.0.known had in
-    let n0 : ℕ = 0 in
-    let log0 = c.enter.ensures.took.log in
-    let was0 = found_history g.L.SiteName.starts (λ (t : LockedState). t.books) (λ (t : LockedState). last_in t.books t.lb t.count) c.self.inside.seat.me c.enter.new.seat.me c.self.invariant.2 c.enter.ensures.took
-    c.slot_mut.result.now c.slot_mut.ensures.value c.in-Some.locked c.in-Some.is in
-    let grew0 = back_history g.L.SiteName.starts n0 log0 g.L.SiteName.sizes g.L.SiteName.firsts c.in-Some.locked.books (held c.give_back-done.new.self.books c.give_back-done.new.account.receipts.items c.give_back-done.new.account.share.amount) c.self.inside.account.receipts.items c.self.inside.account.share.amount c.args.back.session c.args.back.at c.args.back.lease c.args.back.outcome (cut_in c.give_back-done.result.0) c.give_back-done.result.1 known c.give_back-done.ensures.ok c.give_back-done.ensures.err was0 in
-    let news_is : last_in c.give_back-done.new.self.books c.give_back-done.new.self.lb c.give_back-done.new.self.count ≡ gained_in c.self.inside.account.receipts.items c.give_back-done.new.account.receipts.items =
-    ap (λ (k : ℕ). last_in c.give_back-done.new.self.books k c.give_back-done.new.self.count) c.give_back-done.ensures.news.0
-    ∙ ap (λ (k : ℕ). last_in c.give_back-done.new.self.books c.args.back.lease.lb k) c.give_back-done.ensures.news.1 ∙ grew0.last in
-    let sees = subst (λ (es : List (ℕ × Entry)). SeatSees g.L.SiteName.starts c.self.inside.seat.me c.leave.new.seat.me es) news_is
-    (seat_sees g.L.SiteName.starts (λ (t : LockedState). t.books) (λ (t : LockedState). last_in t.books t.lb t.count) c.self.inside.seat.me c.enter.new.seat.me c.self.invariant.2 c.enter.ensures.took
+    let sees = seat_sees g.L.SiteName.starts c.self.inside.seat.me c.enter.new.seat.me c.self.invariant.2 c.enter.ensures.took
     c.slot_mut.result.now c.slot_mut.ensures.value c.in-Some.locked c.in-Some.is c.give_back-done.new.self
-    (λ n log was.
-    let grew = back_history g.L.SiteName.starts n log g.L.SiteName.sizes g.L.SiteName.firsts c.in-Some.locked.books (held c.give_back-done.new.self.books c.give_back-done.new.account.receipts.items c.give_back-done.new.account.share.amount) c.self.inside.account.receipts.items c.self.inside.account.share.amount c.args.back.session c.args.back.at c.args.back.lease c.args.back.outcome (cut_in c.give_back-done.result.0) c.give_back-done.result.1 known c.give_back-done.ensures.ok c.give_back-done.ensures.err was in
-    subst (λ (es : List (ℕ × Entry)). IsSiteHistory g.L.SiteName.starts (log ++ by_seat n es) c.give_back-done.new.self.books) (sym news_is) grew.history) c.leave.new.seat.me c.leave.ensures.left) in
+    c.self.inside.account.receipts.items c.give_back-done.new.account.receipts.items c.args.back.lease.lb (cut_in c.give_back-done.result.0) c.give_back-done.ensures.news
+    (λ n steps was.
+    back_history g.L.SiteName.starts n steps g.L.SiteName.sizes g.L.SiteName.firsts c.in-Some.locked.books (held c.give_back-done.new.self.books c.give_back-done.new.account.receipts.items c.give_back-done.new.account.share.amount) c.self.inside.account.receipts.items c.self.inside.account.share.amount c.args.back.session c.args.back.at c.args.back.lease c.args.back.outcome (cut_in c.give_back-done.result.0) c.give_back-done.result.1 known c.give_back-done.ensures.ok c.give_back-done.ensures.err was) c.leave.new.seat.me c.leave.ensures.left in
     let length = back_length g.L.SiteName.sizes g.L.SiteName.firsts c.in-Some.locked.books c.give_back-done.new.self.books (cut_in c.give_back-done.result.0) c.self.inside.account.receipts.items c.give_back-done.new.account.receipts.items c.self.inside.account.share.amount c.give_back-done.new.account.share.amount c.args.back.session c.args.back.at c.args.back.lease c.args.back.outcome c.give_back-done.result.1 c.give_back-done.ensures.ok in
     let amount = back_amount g.L.SiteName.sizes g.L.SiteName.firsts c.in-Some.locked.books c.give_back-done.new.self.books (cut_in c.give_back-done.result.0) c.self.inside.account.receipts.items c.give_back-done.new.account.receipts.items c.self.inside.account.share.amount c.give_back-done.new.account.share.amount c.args.back.session c.args.back.at c.args.back.lease c.args.back.outcome c.give_back-done.result.1 c.give_back-done.ensures.ok in
     let err = back_err g.L.SiteName.sizes g.L.SiteName.firsts c.in-Some.locked.books c.give_back-done.new.self.books (cut_in c.give_back-done.result.0) c.self.inside.account.receipts.items c.give_back-done.new.account.receipts.items c.self.inside.account.share.amount c.give_back-done.new.account.share.amount c.args.back.session c.args.back.at c.args.back.lease c.args.back.outcome c.give_back-done.result.1 c.give_back-done.ensures.err in

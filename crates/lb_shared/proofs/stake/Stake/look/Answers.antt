@@ -1,17 +1,14 @@
 -- A hold of the lock that adds nothing, and what the seat that had it has seen then.
-use Rattle.std.proofs.Common.{◌≡◌, ℕ, List, [], ◌∷◌, ◌++◌, Some, append-nil, subst, sym, ap, ◌∙◌}
+use Rattle.std.proofs.Common.{List, [], ◌∷◌, Some, None, refl, subst, sym, ap, ◌∙◌}
 use Rattle.std.specs.Prelude.{IfOk}
 use Rattle.atomic_table.specs.Table.{rest}
 use Rattle.lb_model.specs.Present.{IsPresent}
 use Rattle.lb_book.specs.Journal.{Journal, past_of}
-use Rattle.lb_model.specs.declared.journal.Entry.{Entry}
-use Rattle.lb_shared.specs.Seats.{by_seat}
-use Rattle.lb_shared.specs.Histories.{IsSiteHistory, SeatSees, last_in}
-use Rattle.lb_shared.specs.Holds.{LockedState}
 use Rattle.lb_shared.specs.Sites.{AreSited, At}
 use Rattle.lb_shared.proofs.CountLaws.{count_looked}
-use Rattle.lb_shared.proofs.HistoryLaws.{no_news, present_history}
-use Rattle.lb_shared.proofs.SeatLaws.{desk_sees, seat_sees, seen_last, told_last}
+use Rattle.lb_shared.proofs.HistoryLaws.{present_history}
+use Rattle.lb_shared.proofs.JournalLaws.{look_history}
+use Rattle.lb_shared.proofs.SeatLaws.{desk_sees, seat_cuts, seat_sees, seen_last, told_last}
 use Rattle.lb_shared.proofs.stake.Stake.look.Goals as goal
 
 pub slot_mut-requires : goal.slot_mut-requires
@@ -19,36 +16,35 @@ slot_mut-requires g c =
     let took = c.enter.ensures.took in
     (c.enter.ensures.of ∙ c.self.invariant.1, (Some took.value, ap (λ m. m.1) took.after_is ∙ ap (λ m. (0, Some took.value) ∷ rest m.1) (sym took.after_is)))
 
-still : (starts : _) (n : ℕ) (log : List (ℕ × (ℕ × Entry))) (old new : LockedState) (news : List (ℕ × Entry)) → new.books ≡ old.books → news ≡ []
-    → IsSiteHistory starts log old.books → IsSiteHistory starts (log ++ by_seat n news) new.books
-still starts n log old new news same none was =
-    subst (λ (es : List (ℕ × Entry)). IsSiteHistory starts (log ++ by_seat n es) new.books) (sym none)
-    (subst (λ (l : List (ℕ × (ℕ × Entry))). IsSiteHistory starts l new.books) (sym (append-nil log))
-    (subst (λ (xs : List Journal). IsSiteHistory starts log xs) (sym same) was))
-
 pub leave-requires-clause-told : goal.leave-requires-clause-told
 leave-requires-clause-told g c =
-    let none = no_news c.look-done.new.self.books c.look-done.new.self.lb c.look-done.new.self.count c.look-done.ensures.news in
-    told_last g.L.SiteName.starts (λ (t : LockedState). t.books) (λ (t : LockedState). last_in t.books t.lb t.count) c.self.inside.seat.me c.enter.new.seat.me c.self.invariant.2 c.enter.ensures.took
-    c.slot_mut.result.now c.slot_mut.ensures.value c.in-Some.locked c.in-Some.is c.look-done.new.self
-    (λ n log was. still g.L.SiteName.starts n log c.in-Some.locked c.look-done.new.self _ c.look-done.ensures.same none was)
+    told_last g.L.SiteName.starts c.self.inside.seat.me c.enter.new.seat.me c.self.invariant.2 c.enter.ensures.took
+    c.slot_mut.result.now c.slot_mut.ensures.value c.in-Some.locked c.in-Some.is c.look-done.new.self [] [] c.look-done.new.self.lb None
+    (refl, c.look-done.ensures.news.0, c.look-done.ensures.news.1)
+    (λ n steps was. look_history g.L.SiteName.starts n steps c.look-done.new.self.lb c.in-Some.locked.books c.look-done.new.self.books c.look-done.ensures.same was)
 
 pub returns-clause-sees : goal.returns-clause-sees
 returns-clause-sees g c =
-    let none = no_news c.look-done.new.self.books c.look-done.new.self.lb c.look-done.new.self.count c.look-done.ensures.news in
-    let sees = subst (λ (es : List (ℕ × Entry)). SeatSees g.L.SiteName.starts c.self.inside.seat.me c.leave.new.seat.me es) none
-    (seat_sees g.L.SiteName.starts (λ (t : LockedState). t.books) (λ (t : LockedState). last_in t.books t.lb t.count) c.self.inside.seat.me c.enter.new.seat.me c.self.invariant.2 c.enter.ensures.took
-    c.slot_mut.result.now c.slot_mut.ensures.value c.in-Some.locked c.in-Some.is c.look-done.new.self
-    (λ n log was. still g.L.SiteName.starts n log c.in-Some.locked c.look-done.new.self _ c.look-done.ensures.same none was) c.leave.new.seat.me c.leave.ensures.left) in
-    rw (sym c.self.view_is) (desk_sees g.L.SiteName.starts _ _ c.self.inside.seat.me c.leave.new.seat.me _ (c.leave.ensures.of ∙ c.enter.ensures.of) sees)
+    let sees = seat_sees g.L.SiteName.starts c.self.inside.seat.me c.enter.new.seat.me c.self.invariant.2 c.enter.ensures.took
+    c.slot_mut.result.now c.slot_mut.ensures.value c.in-Some.locked c.in-Some.is c.look-done.new.self [] [] c.look-done.new.self.lb None
+    (refl, c.look-done.ensures.news.0, c.look-done.ensures.news.1)
+    (λ n steps was. look_history g.L.SiteName.starts n steps c.look-done.new.self.lb c.in-Some.locked.books c.look-done.new.self.books c.look-done.ensures.same was) c.leave.new.seat.me c.leave.ensures.left in
+    rw (sym c.self.view_is) (desk_sees g.L.SiteName.starts _ _ _ _ c.self.inside.seat.me c.leave.new.seat.me _ (c.leave.ensures.of ∙ c.enter.ensures.of) sees)
+
+pub returns-clause-marks : goal.returns-clause-marks
+returns-clause-marks g c =
+    rw (sym c.self.view_is)
+    (seat_cuts g.L.SiteName.starts c.self.inside.seat.me c.enter.new.seat.me c.self.invariant.2 c.enter.ensures.took
+    c.slot_mut.result.now c.slot_mut.ensures.value c.in-Some.locked c.in-Some.is c.look-done.new.self [] [] c.look-done.new.self.lb None
+    (refl, c.look-done.ensures.news.0, c.look-done.ensures.news.1)
+    (λ n steps was. look_history g.L.SiteName.starts n steps c.look-done.new.self.lb c.in-Some.locked.books c.look-done.new.self.books c.look-done.ensures.same was) c.leave.new.seat.me c.leave.ensures.left c.self.inside.seat.table_id c.leave.new.seat.table_id)
 
 pub invariant_of-self : goal.invariant_of-self
 invariant_of-self g c =
-    let none = no_news c.look-done.new.self.books c.look-done.new.self.lb c.look-done.new.self.count c.look-done.ensures.news in
-    let sees = subst (λ (es : List (ℕ × Entry)). SeatSees g.L.SiteName.starts c.self.inside.seat.me c.leave.new.seat.me es) none
-    (seat_sees g.L.SiteName.starts (λ (t : LockedState). t.books) (λ (t : LockedState). last_in t.books t.lb t.count) c.self.inside.seat.me c.enter.new.seat.me c.self.invariant.2 c.enter.ensures.took
-    c.slot_mut.result.now c.slot_mut.ensures.value c.in-Some.locked c.in-Some.is c.look-done.new.self
-    (λ n log was. still g.L.SiteName.starts n log c.in-Some.locked c.look-done.new.self _ c.look-done.ensures.same none was) c.leave.new.seat.me c.leave.ensures.left) in (
+    let sees = seat_sees g.L.SiteName.starts c.self.inside.seat.me c.enter.new.seat.me c.self.invariant.2 c.enter.ensures.took
+    c.slot_mut.result.now c.slot_mut.ensures.value c.in-Some.locked c.in-Some.is c.look-done.new.self [] [] c.look-done.new.self.lb None
+    (refl, c.look-done.ensures.news.0, c.look-done.ensures.news.1)
+    (λ n steps was. look_history g.L.SiteName.starts n steps c.look-done.new.self.lb c.in-Some.locked.books c.look-done.new.self.books c.look-done.ensures.same was) c.leave.new.seat.me c.leave.ensures.left in (
       record {
         part = rw c.look-done.ensures.parts c.self.invariant.0.part;
         counted = c.look-done.ensures.amount ∙ c.self.invariant.0.counted;
@@ -63,10 +59,10 @@ invariant_of-self g c =
 
 pub returns-clause-whole : goal.returns-clause-whole
 returns-clause-whole g c =
-    let none = no_news c.look-done.new.self.books c.look-done.new.self.lb c.look-done.new.self.count c.look-done.ensures.news in
-    let last = seen_last g.L.SiteName.starts (λ (t : LockedState). t.books) (λ (t : LockedState). last_in t.books t.lb t.count) c.self.inside.seat.me c.enter.new.seat.me c.self.invariant.2 c.enter.ensures.took
-    c.slot_mut.result.now c.slot_mut.ensures.value c.in-Some.locked c.in-Some.is c.look-done.new.self
-    (λ n log was. still g.L.SiteName.starts n log c.in-Some.locked c.look-done.new.self _ c.look-done.ensures.same none was) c.leave.new.seat.me c.leave.ensures.left in
+    let last = seen_last g.L.SiteName.starts c.self.inside.seat.me c.enter.new.seat.me c.self.invariant.2 c.enter.ensures.took
+    c.slot_mut.result.now c.slot_mut.ensures.value c.in-Some.locked c.in-Some.is c.look-done.new.self [] [] c.look-done.new.self.lb None
+    (refl, c.look-done.ensures.news.0, c.look-done.ensures.news.1)
+    (λ n steps was. look_history g.L.SiteName.starts n steps c.look-done.new.self.lb c.in-Some.locked.books c.look-done.new.self.books c.look-done.ensures.same was) c.leave.new.seat.me c.leave.ensures.left in
     let sited = subst (λ (xs : List Journal). AreSited g.L.SiteName.sizes g.L.SiteName.firsts xs) (sym c.look-done.ensures.same) c.look-done.ensures.sited in
     let shown = subst (λ (xs : List Journal). IfOk c.look-done.result (λ v. At xs c.args.lb (λ (b : Journal). IsPresent b.rules b.opening (past_of b) v.view))) (sym c.look-done.ensures.same) c.look-done.ensures.shown in
-    present_history g.L.SiteName.starts _ g.L.SiteName.sizes g.L.SiteName.firsts c.look-done.new.self.books c.args.lb c.look-done.result sited c.requires.known last shown
+    present_history g.L.SiteName.starts _ g.L.SiteName.sizes g.L.SiteName.firsts c.look-done.new.self.books c.args.lb c.look-done.result sited c.requires.known last.history shown
