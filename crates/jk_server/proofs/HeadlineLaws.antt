@@ -1,7 +1,7 @@
 -- The headline of a run, by what its workers did and how its closing ended.
 use Rattle.std.proofs.Common.{ℕ, suc, ◌≡◌, ◌+◌, List, [], ◌∷◌, length, map, Option, inl, inr, refl, sym, ap, ◌∙◌, subst, arith}
 use Rattle.std.specs.List.{All, AllZip}
-use Rattle.std.proofs.lemmas.List.Elements.{All-head, All-tail}
+use Rattle.std.proofs.lemmas.List.Elements.{All-cons, All-head, All-nil, All-tail}
 use Rattle.std.proofs.lemmas.Option.{slice_get_cases, slice_get_within}
 use Rattle.jk_io.specs.Told.{Rose}
 use Rattle.jk_io.specs.declared.traits.streams.Meanings.{Ghosts}
@@ -15,13 +15,13 @@ use Rattle.lb_book.specs.Returned.{AreReturned, HaveReturned}
 use Rattle.lb_book.specs.declared.receipt.Receipt.{Receipt}
 use Rattle.lb_book.proofs.HistoryLaws.{whole_of}
 use Rattle.client_session.specs.Requests.{Visit}
-use Rattle.lb_shared.specs.Histories.{IsSiteHistory, SeatNote, entries_of, noted, own_in}
+use Rattle.lb_shared.specs.Histories.{IsSiteHistory, SeatNote, Step, cuts_seen, entries_of, noted, own_cuts, own_in, starts_of}
 use Rattle.site_config.specs.declared.balancer.Lb.{Lb}
 use Rattle.request_log.specs.declared.format.Part.{Part as FormatPart}
 use Rattle.request_log.specs.LogStates.{LogState}
 use Rattle.gear_parts.specs.Gears.{GearSide}
 use Rattle.jk_server.specs.Closings.{Closes, KeepsFirst, Shelves, ShelvesFront}
-use Rattle.jk_server.specs.Headline.{AreEnded, AreLegalFrom, AreSessions, HasBooks, IsHeadline, IsOneList, MetNoStray, NamesItsStray, told_in}
+use Rattle.jk_server.specs.Headline.{AreEnded, AreLegalFrom, AreSessions, HasBooks, HaveCut, IsHeadline, IsOneList, MetNoStray, NamesItsStray, cuts_in, told_in}
 use Rattle.jk_server.specs.Runs.{AreServedGears}
 use Rattle.jk_server.specs.Served.{Run}
 use Rattle.jk_server.specs.Worker.{WorkerTells}
@@ -37,11 +37,12 @@ record HaveServed {C S Y L X : Type 0} (visits : ℕ → Peer → Visit) (told :
   sessions : AreSessions visits told of number workers
   own : AllZip (λ (s : SeatNote) (runs : List (Run C S Y)). own_in s.number s.seen ≡ noted (told_in runs)) seats workers
   back : AllZip (λ (s : SeatNote) (runs : List (Run C S Y)). MetNoStray runs → HaveReturned (told_in runs)) seats workers
+  cut : AllZip (λ (s : SeatNote) (runs : List (Run C S Y)). HaveCut s runs) seats workers
   strays : AllZip NamesItsStray workers ends
 
 have_served : {C S O L X : Type 0} (visits : ℕ → Peer → Visit) (told : Ghosts C X) (of : WorkerTells S (Option (LogState O))) (format : List FormatPart) (number : ℕ) (before after : List (GearSide C S O)) (seats : List SeatNote) (ends : List (WorkerEnd L))
     → AreServedGears visits told of format number before after seats ends → HaveServed visits told of number seats ends
-have_served visits told of format number [] [] [] [] served = record { workers = []; each = refl; sessions = tt; own = tt; back = tt; strays = tt }
+have_served visits told of format number [] [] [] [] served = record { workers = []; each = refl; sessions = tt; own = tt; back = tt; cut = tt; strays = tt }
 have_served visits told of format number (b ∷ before) (a ∷ after) (s ∷ seats) (e ∷ ends) served =
     let rest = have_served visits told of format (number + 1) before after seats ends served.1 in
     record {
@@ -49,6 +50,7 @@ have_served visits told of format number (b ∷ before) (a ∷ after) (s ∷ sea
       each = ap (λ (n : ℕ). suc n) rest.each;
       sessions = (served.0.served.sessions, rest.sessions);
       own = (served.0.own, rest.own);
+      cut = (served.0.cut, rest.cut);
       back = (
         served_back (visits number) told of b.door a.door served.0.from served.0.to served.0.served.runs e served.0.served.why served.0.served.sessions served.0.fresh.no_stray.1,
         rest.back,
@@ -78,6 +80,30 @@ told_each log (s ∷ seats) (w ∷ workers) all own = (
   told_each log seats workers (All-tail (λ (t : SeatNote). own_in t.number log ≡ own_in t.number t.seen) s seats all) own.1,
 )
 
+-- What the history with its cuts has as cut by each desk was cut in its worker's sessions.
+cut_each : {C S Y : Type 0} (steps : List (ℕ × Step)) (seats : List SeatNote) (workers : List (List (Run C S Y)))
+    → All (λ s. own_cuts s.number steps ≡ cuts_seen s) seats
+    → AllZip (λ (s : SeatNote) (runs : List (Run C S Y)). HaveCut s runs) seats workers
+    → AllZip (λ (n : ℕ) (runs : List (Run C S Y)). own_cuts n steps ≡ cuts_in runs) (map (λ s. s.number) seats) workers
+cut_each steps [] [] all cut = tt
+cut_each steps [] (w ∷ workers) all cut = absurd cut
+cut_each steps (s ∷ seats) [] all cut = absurd cut
+cut_each steps (s ∷ seats) (w ∷ workers) all cut = (
+  All-head (λ (t : SeatNote). own_cuts t.number steps ≡ cuts_seen t) s seats all ∙ cut.0.0,
+  cut_each steps seats workers (All-tail (λ (t : SeatNote). own_cuts t.number steps ≡ cuts_seen t) s seats all) cut.1,
+)
+
+sited_each : {C S Y : Type 0} (starts : List Opening) (seats : List SeatNote) (workers : List (List (Run C S Y))) → All (λ s. s.starts ≡ starts) seats
+    → AllZip (λ (s : SeatNote) (runs : List (Run C S Y)). HaveCut s runs) seats workers
+    → All (λ (runs : List (Run C S Y)). All (λ (r : Run C S Y). r.to.desk.seat.starts ≡ starts) runs) workers
+sited_each {C} {S} {Y} starts [] [] all cut = All-nil (λ (runs : List (Run C S Y)). All (λ (r : Run C S Y). r.to.desk.seat.starts ≡ starts) runs)
+sited_each starts [] (w ∷ workers) all cut = absurd cut
+sited_each starts (s ∷ seats) [] all cut = absurd cut
+sited_each {C} {S} {Y} starts (s ∷ seats) (w ∷ workers) all cut =
+    All-cons (λ (runs : List (Run C S Y)). All (λ (r : Run C S Y). r.to.desk.seat.starts ≡ starts) runs) w workers
+    (subst (λ (os : List Opening). All (λ (r : Run C S Y). r.to.desk.seat.starts ≡ os) w) (All-head (λ (t : SeatNote). t.starts ≡ starts) s seats all) cut.0.1)
+    (sited_each starts seats workers (All-tail (λ (t : SeatNote). t.starts ≡ starts) s seats all) cut.1)
+
 -- So the tickets that the one history has as given out to a desk that met no stray came back in it.
 returned_each : {C S Y : Type 0} (log : List (ℕ × (ℕ × Entry))) (seats : List SeatNote) (workers : List (List (Run C S Y)))
     → AllZip (λ (n : ℕ) (runs : List (Run C S Y)). own_in n log ≡ noted (told_in runs)) (map (λ s. s.number) seats) workers
@@ -102,8 +128,8 @@ legal_from starts log books history sound lb o at =
 one_list : {C S Y : Type 0} (lbs : List Lb) (at : ℕ) (seats : List SeatNote) (workers : List (List (Run C S Y))) (books : List Journal) → AreEnded lbs at seats books
     → AllZip (λ (s : SeatNote) (runs : List (Run C S Y)). own_in s.number s.seen ≡ noted (told_in runs)) seats workers
     → AllZip (λ (s : SeatNote) (runs : List (Run C S Y)). MetNoStray runs → HaveReturned (told_in runs)) seats workers
-    → IsOneList lbs at workers books
-one_list lbs at seats workers books ended own back = record {
+    → AllZip (λ (s : SeatNote) (runs : List (Run C S Y)). HaveCut s runs) seats workers → IsOneList lbs at workers books
+one_list lbs at seats workers books ended own back cut = record {
   begun = ended.begun;
   starts = ended.starts;
   log = ended.closed.closed.log;
@@ -114,6 +140,11 @@ one_list lbs at seats workers books ended own back = record {
   told = told_each ended.closed.closed.log seats workers ended.closed.closed.own own;
   returned = returned_each ended.closed.closed.log seats workers (told_each ended.closed.closed.log seats workers ended.closed.closed.own own) back;
   no_other = ended.closed.no_other;
+  steps = ended.closed.closed.steps;
+  entries = ended.closed.closed.entries;
+  cuts = cut_each ended.closed.closed.steps seats workers ended.closed.closed.cuts cut;
+  sited = sited_each (starts_of ended.begun) seats workers ended.closed.closed.begun cut;
+  journals = ended.closed.closed.journals;
 }
 
 -- The Books of a closing that took them.
@@ -143,5 +174,5 @@ headline_of visits told of format shelved faults lbs at begun left back seats bo
       each = all.each;
       sessions = all.sessions;
       strays = all.strays;
-      journal = λ has. one_list lbs at seats all.workers books (ends_with shelved faults lbs at seats books left back end closes has) all.own all.back;
+      journal = λ has. one_list lbs at seats all.workers books (ends_with shelved faults lbs at seats books left back end closes has) all.own all.back all.cut;
     }

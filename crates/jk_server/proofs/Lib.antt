@@ -5,6 +5,7 @@ pub mod GearRunLaws
 pub mod HeadlineLaws
 pub mod ReturnLaws
 pub mod RunLaws
+pub mod ShelfLaws
 pub mod SlotLaws
 pub mod StartLaws
 pub mod StrayLaws

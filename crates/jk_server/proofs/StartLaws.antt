@@ -20,7 +20,7 @@ use Rattle.request_log.specs.LogStates.{LogState}
 use Rattle.gear_parts.specs.GearLogs.{broken_by, new_log, sink_of}
 use Rattle.gear_parts.specs.Gears.{GearSide, gear_side}
 use Rattle.gear_parts.specs.declared.world.Gear.{Gear}
-use Rattle.jk_server.specs.Headline.{told_in}
+use Rattle.jk_server.specs.Headline.{HaveCut, told_in}
 use Rattle.jk_server.specs.Served.{IsServed}
 use Rattle.jk_server.specs.Worker.{WorkerTells, WorkerSide}
 use Rattle.jk_server.specs.declared.part.WorkerEnd.{WorkerEnd}
@@ -87,6 +87,7 @@ begins_seated lock d is = (
     none_forgotten = is.0.none_forgotten;
     no_stray = is.0.no_stray;
     none_seen = is.0.none_seen;
+    no_step = is.0.no_step;
   },
   is.1,
   is.2,
@@ -111,9 +112,9 @@ run_done {L = L} visits told shelved of format lbs moment begun left back seats 
 pub served_gear : {C S O L X : Type 0} → (visit : Peer → Visit) (told : Ghosts C X) (of : WorkerTells S (Option (LogState O))) (format : List FormatPart) (before after : GearSide C S O) (seat : SeatNote) (from to : WorkerSide S (Option (LogState O))) (end : WorkerEnd L)
     → (served : IsServed visit told of before.door after.door from to end) → WorksWith before from → IsNew from.desk → WorksWith after to
     → from.log ≡ new_log format before.log → sink_of to.log ≡ after.log
-    → own_in seat.number seat.seen ≡ noted (told_in served.runs) → IsServedGear visit told of format before after seat end
-served_gear visit told of format before after seat from to end served first fresh last begun left own =
-    record { from = from; to = to; first = first; fresh = fresh; last = last; begun = begun; left = left; served = served; own = own }
+    → own_in seat.number seat.seen ≡ noted (told_in served.runs) → HaveCut seat served.runs → IsServedGear visit told of format before after seat end
+served_gear visit told of format before after seat from to end served first fresh last begun left own cut =
+    record { from = from; to = to; first = first; fresh = fresh; last = last; begun = begun; left = left; served = served; own = own; cut = cut }
 
 -- The run, from before its start.
 pub started_run : {D G T K S O C L X : Type 0} → (visits : ℕ → Peer → Visit) (told : Ghosts C X) (shelved : S → Option (List (ℕ × Segment))) (of : WorkerTells S (Option (LogState O))) (format : List FormatPart) (lbs : List Lb) (moment : ℕ)

@@ -97,7 +97,7 @@ module _ {C S Y X : Type 0} (visit : Peer → Visit) (told : Ghosts C X) (of : W
       (told_rested rested.0 n runs rested.4 (All-tail (IsRun visit told of) r runs sessions)))
 
   -- A stray that is taken leaves the seat as it is.
-  same_seat : {L : Type 0} (end : WorkerEnd L) (d : SharedState S) → (left_by end d).seat ≡ d.seat
+  pub same_seat : {L : Type 0} (end : WorkerEnd L) (d : SharedState S) → (left_by end d).seat ≡ d.seat
   same_seat (worker.Closed sessions) d = refl
   same_seat worker.DoorFault d = refl
   same_seat worker.ShelfFault d = refl

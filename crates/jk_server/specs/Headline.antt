@@ -7,7 +7,7 @@
 -- Return in the list.
 -- Each client was served by one session, of which `IsRun` says what its requests were, what the desk, the talks and the client
 -- have of them, and why it ended.
-use Rattle.std.specs.Prelude.{ℕ, ◌≡◌, ◌+◌, List, [], ◌∷◌, ◌++◌, length, map, Some, slice_get}
+use Rattle.std.specs.Prelude.{ℕ, ◌≡◌, ◌+◌, List, [], ◌∷◌, ◌++◌, drop, length, map, Some, slice_get}
 use Rattle.std.specs.List.{All, AllZip, Contains, flat_map}
 use Rattle.jk_io.specs.declared.traits.streams.Meanings.{Ghosts}
 use Rattle.jk_io.specs.declared.traits.surroundings.Peer.{Peer}
@@ -21,7 +21,7 @@ use Rattle.lb_book.specs.declared.receipt.Receipt.{Receipt}
 use Rattle.client_session.specs.Requests.{Visit}
 use Rattle.client_session.specs.declared.ending.SessionStop.TheVariants as stop
 use Rattle.exchange.specs.Requests.{sizes_of}
-use Rattle.lb_shared.specs.Histories.{AreDistinct, IsSiteHistory, SeatNote, entries_of, noted, own_in, starts_of}
+use Rattle.lb_shared.specs.Histories.{AreDistinct, AreJournalsAfter, IsSiteHistory, SeatNote, Step, cuts_seen, entries_of, log_in, noted, own_cuts, own_in, starts_of}
 use Rattle.lb_shared.specs.Sites.{AreSited}
 use Rattle.site_reports.specs.Starts.{AreStarts}
 use Rattle.lb_closing.specs.OneHistory.{IsOneHistory}
@@ -37,6 +37,17 @@ use Rattle.jk_server.specs.declared.runs.ends.Closing.TheVariants as closing
 abbrev pub told_in : {C S Y : Type 0} → List (Run C S Y) → List Receipt
 told_in runs = flat_map (λ r. r.to.desk.desk.receipts) runs
 
+-- The cuts that the desk made in a session, and in all sessions of a worker, in order: of each its balancer, and all steps before it.
+abbrev pub cuts_made : {C S Y : Type 0} → Run C S Y → List (ℕ × List (ℕ × Step))
+cuts_made r = drop (length (cuts_seen r.from.desk.seat)) (cuts_seen r.to.desk.seat)
+
+abbrev pub cuts_in : {C S Y : Type 0} → List (Run C S Y) → List (ℕ × List (ℕ × Step))
+cuts_in runs = flat_map cuts_made runs
+
+-- This seat has seen as its desk's own just the cuts of these sessions, in which the desk was at the same Site.
+abbrev pub HaveCut : {C S Y : Type 0} → SeatNote → List (Run C S Y) → Type 0
+HaveCut seat runs = (cuts_seen seat ≡ cuts_in runs) × All (λ r. r.to.desk.seat.starts ≡ seat.starts) runs
+
 -- none of these sessions ended by a stray
 abbrev pub MetNoStray : {C S Y : Type 0} → List (Run C S Y) → Type 0
 MetNoStray runs = All (λ r. IsStray r.end.stop → ⊥) runs
@@ -49,6 +60,9 @@ AreLegalFrom starts log = (lb : ℕ) (o : Opening) → slice_get starts lb ≡ S
 -- The balancers began with number 0 at the moment `at`. Each worker had a desk of another number, and of that number the list
 -- has exactly what the worker's sessions were told, in order. It has no other entries: each has the number of one of these desks.
 -- Unless a session of the worker ended by a stray, each ticket that a Select of that number gave out came back by a later Return.
+-- `steps` is the list with the cuts of journals between its entries. Each desk's cuts in it are just those of its worker's sessions, of
+-- which `IsRun` says that the shelf was given their segments: each is the journal that the steps before its cut left of its balancer.
+-- What all steps left of each balancer is what its Book keeps.
 pub record IsOneList {C S Y : Type 0} (lbs : List Lb) (at : ℕ) (workers : List (List (Run C S Y))) (books : List Journal) : Type 0 where
   pub begun : List Journal
   pub starts : AreStarts lbs at 0 begun
@@ -60,6 +74,11 @@ pub record IsOneList {C S Y : Type 0} (lbs : List Lb) (at : ℕ) (workers : List
   pub told : AllZip (λ number runs. own_in number log ≡ noted (told_in runs)) numbers workers
   pub returned : AllZip (λ number runs. MetNoStray runs → AreReturned (own_in number log)) numbers workers
   pub no_other : All (λ x. Contains numbers x.0) log
+  pub steps : List (ℕ × Step)
+  pub entries : log ≡ log_in steps
+  pub cuts : AllZip (λ number runs. own_cuts number steps ≡ cuts_in runs) numbers workers
+  pub sited : All (λ runs. All (λ r. r.to.desk.seat.starts ≡ starts_of begun) runs) workers
+  pub journals : AreJournalsAfter (starts_of begun) steps books
 
 -- Each client of these workers was served by a session of the worker's number.
 abbrev pub AreSessions : {C S Y X : Type 0} → (ℕ → Peer → Visit) → Ghosts C X → WorkerTells S Y → (number : ℕ) → List (List (Run C S Y)) → Type 0

@@ -22,6 +22,7 @@ use Rattle.jk_server.specs.Worker.{MayBegin}
 use Rattle.jk_server.proofs.GearRunLaws.{as_many, each_left, gears_served, parts_whole, served_from, served_same}
 use Rattle.jk_server.proofs.SlotLaws.{as_many_done, each_done, over_after, room_so}
 use Rattle.jk_server.proofs.StartLaws.{begins_seated, new_so, new_unbroken, one_part, served_gear, starts_are, starts_told}
+use Rattle.jk_server.proofs.ShelfLaws.{cut_left, cut_served}
 use Rattle.jk_server.proofs.ToldLaws.{lock_left, told_left, told_served}
 use Rattle.jk_server.proofs.runs.parts.work.Goals as goal
 
@@ -100,7 +101,7 @@ returns-clause-ran g c =
     c.requires.format c.fill_slots.ensures.starts in
     let begun =
     starts_are lock sizes pools watch format (λ s. BeginsSo lock format s.desk s.log) slot_start slots c.args.gears.items starts
-    (λ k d lt. ((record { no_receipt = refl; none_held = refl; none_forgotten = refl; no_stray = (refl, refl); none_seen = refl }, refl, refl), new_so format _)) in
+    (λ k d lt. ((record { no_receipt = refl; none_held = refl; none_forgotten = refl; no_stray = (refl, refl); none_seen = refl; no_step = refl }, refl, refl), new_so format _)) in
     let fresh =
     All-weaker (λ s. BeginsSo lock format (unnumbered s.part.desk) s.part.log) (λ s. BeginsSo lock format s.part.desk s.part.log)
     (λ s is. (begins_seated lock s.part.desk is.0, is.1)) slots begun in
@@ -119,7 +120,8 @@ returns-clause-ran g c =
           served_same _ _ _ _ _ (gear_side at g.T.Tape.talks g.K.Clock.answers) _ o _ v.seat _ e is.leaves.gear_left is.leaves.desk.seat_left is.leaves.ended
           (served_gear _ _ _ _ _ _ _ _ _ _ is.did.served (record { shelf = refl; clock = refl; talks = refl }) new.0.0
           (record { shelf = refl; clock = refl; talks = refl }) new.1 refl
-          (told_left _ _ _ _ (told_served _ _ _ _ _ _ _ _ is.did.served) new.0.0.none_seen refl))));
+          (told_left _ _ _ _ (told_served _ _ _ _ _ _ _ _ is.did.served) new.0.0.none_seen refl)
+          (cut_left _ _ _ _ (cut_served _ _ _ _ _ _ _ _ is.did.served) new.0.0.no_step refl))));
       here =
           each_left (λ s. BeginsSo lock format s.part.desk s.part.log) _ (λ v. v.seat.lock ≡ lock) 0 slots gears leaving ends fresh each
           (λ k s o v e new is. lock_left _ _ _ _ lock (told_served _ _ _ _ _ _ _ _ is.did.served) new.0.2 is.leaves.desk.seat_left);
