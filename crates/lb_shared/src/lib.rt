@@ -18,6 +18,7 @@
 #![tactic(auto)]
 
 mod account;
+mod cut_length;
 mod holds;
 mod left_seat;
 mod lent_desk;

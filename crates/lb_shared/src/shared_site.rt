@@ -1,5 +1,6 @@
 //! A Site behind a lock.
 
+use crate::cut_length::CutLength;
 use crate::left_seat::LeftSeatList;
 use crate::locked::Locked;
 use crate::site::{Site, SiteName};
@@ -13,8 +14,7 @@ use std::sync::Wait;
 pub struct SharedSite<'r, L: SiteName, R> {
     pub(crate) rt: &'r R,
     pub(crate) lock: SiteLock<L>,
-    /// The number of kept entries at which a journal is cut; 0 is never.
-    pub(crate) cut_at: u32,
+    pub(crate) cut_at: CutLength<L>,
 }
 
 impl<'r, L: SiteName, R> SharedSite<'r, L, R> {
@@ -39,7 +39,11 @@ impl<'r, L: SiteName, R> SharedSite<'r, L, R> {
     {
         site.count();
         match SiteLock::<L>::open(alloc, Locked::new(site, cut_at)) {
-            Ok(lock) => Ok(SharedSite { rt, lock, cut_at }),
+            Ok(lock) => Ok(SharedSite {
+                rt,
+                lock,
+                cut_at: CutLength::of(cut_at),
+            }),
             Err(_) => Err(NoMemory),
         }
     }

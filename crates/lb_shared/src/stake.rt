@@ -109,8 +109,10 @@ impl<'s, 'r, L: SiteName, R> Stake<'s, 'r, L, R> {
     }
 
     /// The number of kept entries at which the Site cuts a journal; 0 is never.
-    pub(crate) fn cut_at(&self) -> u32 {
-        self.site.cut_at
+    pub(crate) fn cut_at(&self) -> u32
+        ensures { result ≡ L.cut_at }
+    {
+        self.site.cut_at.get()
     }
 
     /// A hold that cuts the journal if due, does a Maintain if due, and then a Select. The room is taken before it: for both
