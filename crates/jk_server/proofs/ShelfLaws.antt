@@ -34,8 +34,7 @@ module _ {C S Y X : Type 0} (visit : Peer → Visit) (told : Ghosts C X) (of : W
   cut_session : (s : WorkerSide S Y) (r : Run C S Y) → BeginsSession of.log s r.peer r.from → IsRun visit told of r
       → (r.to.desk.seat.starts ≡ s.desk.seat.starts) × (cuts_seen r.to.desk.seat ≡ cuts_seen s.desk.seat ++ cuts_made r)
   cut_session s r begins run =
-      let seat : r.from.desk.seat ≡ s.desk.seat = ap (λ (w : WorkerSide S Y). w.desk.seat) begins.same in
-      (
+      let seat : r.from.desk.seat ≡ s.desk.seat = ap (λ (w : WorkerSide S Y). w.desk.seat) begins.same in (
         run.shelf.starts ∙ ap (λ (t : SeatNote). t.starts) seat,
         run.shelf.cuts ∙ ap (λ (t : SeatNote). cuts_seen t ++ cuts_made r) seat,
       )
