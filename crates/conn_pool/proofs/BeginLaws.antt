@@ -8,7 +8,7 @@ use Rattle.jk_io.specs.declared.failures.IoError.{IoError}
 use Rattle.jk_io.specs.declared.failures.IoError.TheVariants as Io
 use Rattle.jk_io.specs.declared.reaching.Begun.{Begun}
 use Rattle.jk_io.specs.declared.reaching.Talk.{Talk}
-use Rattle.conn_pool.specs.Begins.{BeginsOnLink, IsLinkOf, IsQuiet, TapeSight, talks_refused}
+use Rattle.conn_pool.specs.Begins.{Opens, IsLinkOf, IsQuiet, TapeSight, talks_refused}
 use Rattle.conn_pool.specs.Reaches.{LentState, told_begun}
 
 some_if : {X : Type 0} (o : Option X) (P Q : X → Type 0) → IsSomeAnd o P → ((x : X) → P x → Q x) → IfSome o Q
@@ -114,7 +114,7 @@ idle_facts gives faults lb member host port fresh dial talks count now lent ther
 pub dialled_facts : {D L : Type 0} (gives : D → L → D → Type 0) (faults : D → ℕ) (lb member : ℕ) (host : List ℕ) (port : ℕ) (fresh : Bool)
     (dial : D) (talks : Option (List Talk)) (count : ℕ) (dial' : D) (now : TapeSight) (lent : Option (LentState L)) (count' : ℕ) (result : Result Bool IoError)
     (answer : Result L IoError) (mid : Option (List Talk)) → mid ≡ talks → IfOk result (λ d. d ≡ true)
-    → OnOk result (BeginsOnLink (told_begun lb member host port fresh true) mid now lent)
+    → OnOk result (Opens (told_begun lb member host port fresh true) mid now lent)
     → IfErr result (λ e. IsQuiet (talks_refused (failed_talk lb member host port fresh) mid e) now) → OnErr result (lent ≡ None)
     → OnOk result (IsSomeAnd lent (λ l. answer ≡ Ok l.given)) → (IsErrOf result Io.Failed → IsErrOf answer Io.Failed)
     → IfOk answer (λ link. gives dial link dial') → (IsOk answer → faults dial' ≡ faults dial) → HasCause (faults dial) (faults dial') answer

@@ -24,7 +24,7 @@ pub record IsLinkOf {L : Type 0} (b : Begun) (lent : LentState L) : Type 0 where
   pub begins : (lent.began ≡ lent.link.faults) × (lent.faulty ≡ false)
 
 -- a talk began with b over such a link, and nothing was said in it; the talks that ended are these
-pub record BeginsOnLink {L : Type 0} (b : Begun) (talks : Option (List Talk)) (now : TapeSight) (lent : Option (LentState L)) : Type 0 where
+pub record Opens {L : Type 0} (b : Begun) (talks : Option (List Talk)) (now : TapeSight) (lent : Option (LentState L)) : Type 0 where
   pub link : IsSomeAnd lent (λ l. IsLinkOf b l)
   pub fresh : b.fresh ≡ true → b.dialled ≡ true
   pub begun : IfSome now.begun (λ begun. begun ≡ b)

@@ -2,7 +2,7 @@
 ghost use Rattle.std.specs.Prelude.{◌≡◌, true, None, Ok, IsOk, IsErrOf, IfOk, IsSomeAnd, OnOk, OnErr};
 ghost use Rattle.jk_io.specs.Told.{IsEmpty, HasCause};
 ghost use Rattle.jk_io.specs.Talks.{failed_talk};
-ghost use Rattle.conn_pool.specs.Begins.{BeginsOnLink, IsRefusedBegin, sight_of};
+ghost use Rattle.conn_pool.specs.Begins.{Opens, IsRefusedBegin, sight_of};
 ghost use Rattle.conn_pool.specs.Idle.{HasMember};
 ghost use Rattle.conn_pool.specs.Reaches.{told_begun};
 
@@ -26,7 +26,7 @@ pub(crate) struct Asked<'h> {
     pub(crate) fresh: bool,
 }
 
-/// BeginsOnLink a talk over the link that a dial answered for it, and answers that it is new.
+/// Opens a talk over the link that a dial answered for it, and answers that it is new.
 pub(crate) fn begin_dialled<L: Link + Drop, T: Tape, R: Wait>(
     pools: &Pools<'_, Idle<L>, R>,
     tape: &mut T,
@@ -40,7 +40,7 @@ pub(crate) fn begin_dialled<L: Link + Drop, T: Tape, R: Wait>(
     requires empty { IsEmpty (T.sent tape.old) × IsEmpty (T.received tape.old) }
     requires none { lent.old ≡ None }
     ensures new_link { IfOk result (λ dialled. dialled ≡ true) }
-    ensures began { let a = asked.now in OnOk result (BeginsOnLink (told_begun a.lb a.member a.host.now a.port a.fresh true)
+    ensures began { let a = asked.now in OnOk result (Opens (told_begun a.lb a.member a.host.now a.port a.fresh true)
         (T.talks tape.old) (sight_of T.talks T.begun T.sent T.received tape.new) lent.new) }
     ensures refused { let a = asked.now in IsRefusedBegin (failed_talk a.lb a.member a.host.now a.port a.fresh) (T.talks tape.old) result
         (sight_of T.talks T.begun T.sent T.received tape.new) }

@@ -137,8 +137,9 @@ where
     D::L: Send,
     requires few { vec_len slots.old ≤ MAX_WORKERS }
     requires ready { All (λ s. MayBegin cfg.now map.now s.part.desk.desk (R.beside s.part.reach) (Y.broken_by s.part.log)) slots.old.items }
-    ensures served { let told = part_tells D.Door D.L.Meanings K.Clock R.Meanings R.looks S.Shelf ⟦<Y as ToldLog>⟧.told D.L.may_wait in
-        AreDone (WorksSlot told cfg.now map.now) 0 slots.old.items slots.new.items }
+    ensures served { AreDone
+        (WorksSlot (part_tells D.Door D.L.Meanings K.Clock R.Meanings R.looks S.Shelf ⟦<Y as ToldLog>⟧.told D.L.may_wait) cfg.now map.now)
+        0 slots.old.items slots.new.items }
 {
     let crew = Crew {
         rt,
