@@ -41,7 +41,7 @@ module _ {C S Y X : Type 0} (visit : Peer → Visit) (told : Ghosts C X) (of : W
 
   cut_rested : (s n : WorkerSide S Y) (runs : List (Run C S Y)) → HaveRested of s runs n → All (IsRun visit told of) runs → WasCut s.desk.seat n.desk.seat runs
   cut_rested s n [] rested sessions =
-      subst (λ (w : WorkerSide S Y). WasCut {C} {S} {Y} s.desk.seat w.desk.seat []) (sym rested)
+      subst (λ (w : WorkerSide S Y). WasCut {C = C} {S = S} {Y = Y} s.desk.seat w.desk.seat []) (sym rested)
       record { starts = refl; cuts = sym (append-nil (cuts_seen s.desk.seat)); sited = All-nil (λ (r : Run C S Y). r.to.desk.seat.starts ≡ s.desk.seat.starts) }
   cut_rested s n (r ∷ runs) rested sessions =
       let here = cut_session s r rested.1 (All-head (IsRun visit told of) r runs sessions) in
