@@ -52,9 +52,9 @@ IsRequestAnswered i s n body body' settled = IsAnswer (visit_in i) i.head.now i.
 abbrev pub IsAnsweredAt : Inquiry → (s n : ClientStanding) → (body body' : BodyIn) → Settled → Type 0
 IsAnsweredAt i s n body body' settled = IsAnswerAt (visit_in i) i.head.now i.last s n body body' settled.answered (rows_of settled.row)
 
--- These rows were put where rows are put, which was so and is so now: `Puts W.gained rows.old rows.new`.
-abbrev pub Puts : {W : Type 0} → (W → List Served → W → Type 0) → (old new : W) → List Served → Type 0
-Puts gained old new = λ rows. gained old rows new
+-- These rows were put where rows are put, which was so and is so now: `PutIn W.gained rows.old rows.new`.
+abbrev pub PutIn : {W : Type 0} → (W → List Served → W → Type 0) → (old new : W) → List Served → Type 0
+PutIn gained old new = λ rows. gained old rows new
 
 -- The request was answered by that status worker.
 abbrev pub Shows : Inquiry → Status → (s n : ClientStanding) → Result ℕ SessionStop → Type 0

@@ -7,7 +7,7 @@ ghost use Rattle.client_session.specs.Keeping.{TellsTurn};
 ghost use Rattle.client_session.specs.Ready.{IsReady};
 ghost use Rattle.client_session.specs.Requests.{refused_kind as refused_kind_of, visit_of};
 ghost use Rattle.client_session.specs.Standings.{client_at};
-ghost use Rattle.client_session.specs.Surroundings.{Puts, TurnsFrom, TurnsNow, standing_of};
+ghost use Rattle.client_session.specs.Surroundings.{PutIn, TurnsFrom, TurnsNow, standing_of};
 ghost use Rattle.client_session.specs.Turns.{IsBusy};
 ghost use Rattle.client_session.specs.Whole.{HoldsOfEach, IsWholeSession};
 
@@ -101,7 +101,7 @@ where
     requires ready { IsReady (visit_of site.now) (B.state around.old.desk.now) (R.beside around.old.reach.now) }
     requires number { number < MAX_REQUESTS }
     ensures turn { let at = standing_of B.state K.answers R.Meanings C.Meanings in
-        TurnsFrom (visit_of site.now) number head.now (at around.old) (at around.new) (Puts W.gained rows.old rows.new) result }
+        TurnsFrom (visit_of site.now) number head.now (at around.old) (at around.new) (PutIn W.gained rows.old rows.new) result }
     ensures more { result ≡ SessionTurn.Next → number + 1 < MAX_REQUESTS }
     ensures busy { IsBusy result }
     ensures told { TellsTurn B.state R.Meanings C.Meanings (visit_of site.now) result around.old around.new }
@@ -142,7 +142,7 @@ fn refuse<C: Sink, W: RowSink>(
     rows: &mut W,
 ) -> SessionStop
     ensures refused { let see = client_at C.Meanings in
-        RefusesHead date form (see client.old) (see client.new) (Puts W.gained rows.old rows.new) result }
+        RefusesHead date form (see client.old) (see client.new) (PutIn W.gained rows.old rows.new) result }
     ensures beside { C.beside client.new ≡ C.beside client.old }
 {
     let Ok(()) = rows.room() else {
@@ -165,7 +165,7 @@ fn stop_without_head<C: Sink, W: RowSink>(
     rows: &mut W,
 ) -> SessionStop
     ensures stops { let see = client_at C.Meanings in
-        StopsWithoutHead date error (see client.old) (see client.new) (Puts W.gained rows.old rows.new) result }
+        StopsWithoutHead date error (see client.old) (see client.new) (PutIn W.gained rows.old rows.new) result }
     ensures beside { C.beside client.new ≡ C.beside client.old }
 {
     match error {
@@ -190,7 +190,7 @@ where
     requires ready { IsReady (visit_of site.now) (B.state around.old.desk.now) (R.beside around.old.reach.now) }
     requires number { number < MAX_REQUESTS }
     ensures turn { let at = standing_of B.state K.answers R.Meanings C.Meanings in
-        TurnsNow (visit_of site.now) number (at around.old) (at around.new) (Puts W.gained rows.old rows.new) result }
+        TurnsNow (visit_of site.now) number (at around.old) (at around.new) (PutIn W.gained rows.old rows.new) result }
     ensures more { result ≡ SessionTurn.Next → number + 1 < MAX_REQUESTS }
     ensures busy { IsBusy result }
     ensures told { TellsTurn B.state R.Meanings C.Meanings (visit_of site.now) result around.old around.new }
@@ -232,7 +232,7 @@ where
 
     // All requests and the end, what the client has, and what is kept; then what follows of each session that ends so.
     ensures session { IsWholeSession B.state K.answers R.Meanings C.Meanings (visit_of site.now) around.old around.new
-        (Puts W.gained rows.old rows.new) result }
+        (PutIn W.gained rows.old rows.new) result }
     ensures each { HoldsOfEach (visit_of site.now) result }
 
     // A client that is left while it waits is one whose reads may wait.

@@ -3,7 +3,7 @@ use Rattle.std.proofs.Common.{◌≡◌, ◌<◌, ◌-◌, []}
 use Rattle.lb_book.specs.Desks.{MeetsNone}
 use Rattle.client_session.specs.Keeping.{KeepsAround}
 use Rattle.client_session.specs.Requests.{visit_of}
-use Rattle.client_session.specs.Surroundings.{Puts, standing_of, standing_with}
+use Rattle.client_session.specs.Surroundings.{PutIn, standing_of, standing_with}
 use Rattle.client_session.proofs.SessionLaws.{IsUnderWay}
 use Rattle.client_session.proofs.serving.serve_session.Given as goal
 
@@ -12,7 +12,7 @@ invariant-loop-number g l = record {
   way : IsUnderWay (visit_of l.site) l.number
       (standing_with g.B.Desk.state g.K.Clock.answers g.R.Meanings g.C.Meanings l.fn.around [])
       (standing_of g.B.Desk.state g.K.Clock.answers g.R.Meanings g.C.Meanings l.around)
-      (Puts g.W.RowSink.gained l.fn.rows l.rows);
+      (PutIn g.W.RowSink.gained l.fn.rows l.rows);
   few : l.number < 1000;
   met : MeetsNone (g.B.Desk.state l.fn.around.desk.now) (g.B.Desk.state l.around.desk.now);
   calm : g.C.Meanings.faults l.around.client.now ≡ g.C.Meanings.faults l.fn.around.client.now;
