@@ -57,6 +57,10 @@ port_of (container.B port) = port
 abbrev pub demo_container : DemoContainer → Order
 demo_container which = order.Container (route_of which) (codes "127.0.0.1:" ++ decimal (port_of which)) 8 None
 
+-- the status of a demo that isn't begun: an address can't be had, or memory is wanted
+abbrev pub IsUnopened : ℕ → Type 0
+IsUnopened status = (status ≡ 4) ⊎ (status ≡ 6)
+
 -- A part of the demo does what this order asks for, over these files; or memory was wanted before anything was done.
 abbrev pub DoesPart : {F O W G C S Y X Z L : Type 0} → CommandTells F O W G C S Y X Z → List (List ℕ × List ℕ) → Order → (before after : F × O × W) → EndOf L → Type 0
 DoesPart told files o before after ended =

@@ -30,6 +30,9 @@ pub(crate) enum DemoContainer {
     B(u16),
 }
 
+/// How many worker threads the front has, and each container.
+pub(crate) const DEMO_THREADS: u32 = 8;
+
 /// The name of the demo's workers.properties.
 const WORKERS: &[u8] = b"workers.properties";
 
@@ -79,7 +82,7 @@ fn front_order(alloc: Global, address: &Bytes) -> Result<Order, NoMemory>
         workers: Bytes::from_slice(alloc, WORKERS)?,
         map: Bytes::from_slice(alloc, MAP)?,
         address: address.copy()?,
-        threads: ThreadCount::new(8),
+        threads: ThreadCount::new(DEMO_THREADS),
         clients: None,
         journal: None,
         watch: None,
@@ -134,7 +137,7 @@ fn container_order(alloc: Global, which: DemoContainer) -> Result<Order, NoMemor
     Ok(Order::Container {
         route: ContainerRoute::new(Bytes::from_slice(alloc, route_of(which))?),
         address: local_address(alloc, port_of(which))?,
-        threads: ThreadCount::new(8),
+        threads: ThreadCount::new(DEMO_THREADS),
         clients: None,
     })
 }

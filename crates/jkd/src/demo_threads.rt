@@ -1,7 +1,10 @@
 //! The threads of `demo`: one for each container, one for the front, and one that waits for the end of the input. `main` starts
 //! them, since it alone has a runtime that may be sent to a thread.
+ghost use Rattle.std.specs.Prelude.{◌≡◌, IfErr, IfOk, IfSome, OnErr};
+ghost use Rattle.jkd.specs.Demo.{IsUnopened};
+
 use crate::demo::{DemoContainer, DemoPorts, contain_demo, demo_files, serve_demo};
-use crossbeam_channel::{Receiver, Sender};
+use crossbeam_channel::{Receiver, RecvError, Sender};
 use gear_worlds::World;
 use jk_cli::{Order, WordsError};
 use jk_commands::{NO_MEMORY, let_go};
@@ -20,9 +23,6 @@ const DONE: u8 = 0;
 
 /// The status of an address that can't be had.
 const FAULT: u8 = 4;
-
-/// How many worker threads the front has, and each container.
-pub(crate) const DEMO_THREADS: u32 = 8;
 
 /// The demo's front, before containers at these ports. The status with which it ends goes to `to`.
 #[derive(Drop)]
@@ -88,7 +88,9 @@ fn demo_at(alloc: Global, address: &Bytes, ports: DemoPorts) -> Option<Demo> {
 pub(crate) fn demo_of<R: Net<Stream = TcpStream, Listener = TcpListener> + Eprint + AllocGlobal>(
     rt: &R,
     asked: &Result<Order, WordsError>,
-) -> Option<Result<Demo, u8>> {
+) -> Option<Result<Demo, u8>>
+    ensures { IfSome result (λ demo. IfErr demo IsUnopened) }
+{
     match asked {
         Ok(Order::Demo { address }) => Some(open_demo(rt, address)),
         _ => None,
@@ -99,7 +101,9 @@ pub(crate) fn demo_of<R: Net<Stream = TcpStream, Listener = TcpListener> + Eprin
 fn open_demo<R: Net<Stream = TcpStream, Listener = TcpListener> + Eprint + AllocGlobal>(
     rt: &R,
     address: &Bytes,
-) -> Result<Demo, u8> {
+) -> Result<Demo, u8>
+    ensures { IfErr result IsUnopened }
+{
     let Ok(ports) = free_ports(rt) else {
         return Err(FAULT);
     };
@@ -229,7 +233,9 @@ fn is_input_ended<R: Input + Wait>(rt: &R) -> bool {
 }
 
 /// Waits for the end of the input, by which the demo is done.
-fn watch_input<R: Input + Wait>(rt: &R, to: Sender<u8, Global>) -> Option<PartEnd> {
+fn watch_input<R: Input + Wait>(rt: &R, to: Sender<u8, Global>) -> Option<PartEnd>
+    ensures { IfSome result (λ end. end.status ≡ 0) }
+{
     if is_input_ended(rt) {
         Some(PartEnd { status: DONE, to })
     } else {
@@ -244,7 +250,15 @@ pub(crate) fn send_end<R: Wait>(rt: &R, end: Option<PartEnd>) {
     }
 }
 
+/// The status that came from a part of the demo; that of a fault where none comes any more.
+fn status_in(received: Result<u8, RecvError>) -> u8
+    ensures sent { IfOk received (λ status. result ≡ status) }
+    ensures lost { OnErr received (result ≡ 4) }
+{
+    received.unwrap_or(FAULT)
+}
+
 /// Waits for the status with which the demo ends.
 pub(crate) fn end_of<R: Wait>(rt: &R, ends: &Receiver<u8, Global>) -> u8 {
-    ends.recv(rt).unwrap_or(FAULT)
+    status_in(ends.recv(rt))
 }

@@ -20,7 +20,8 @@ mod telling;
 mod write_sink;
 
 use arguments::{WordList, WordsError, read_words};
-use demo_threads::{DEMO_THREADS, Demo, demo_of, end_of, run_part, send_end};
+use demo::DEMO_THREADS;
+use demo_threads::{Demo, demo_of, end_of, run_part, send_end};
 use effects::tell_effects;
 use gear_worlds::RealWorld;
 use jk_cli::read_words as read_order;
@@ -29,9 +30,12 @@ use jk_io::{Bytes, IoError, NoMemory, Sink, write_all};
 use outside::{do_outside, tell_trouble, threads_of};
 use plain_commands::{USAGE, asked_text};
 use real_io::StdOut;
+use std::net::{Net, TcpListener, TcpStream};
 use std::process::ExitCode;
-use std::rt::Env;
+use std::rt::{Env, Files};
+use std::sync::Wait;
 use std::thread;
+use std::time::Clock;
 
 fn print_text<O: Sink>(out: &mut O, text: &[u8]) -> u8 {
     match write_all(out, text) {
@@ -88,6 +92,19 @@ fn ended<R: Eprint>(rt: &R, status: u8) -> ExitCode {
     ExitCode::from(status)
 }
 
+/// Waits until no link of the world lingers any more. Who asked for a stop is told of a good end.
+fn end_world<R>(world: RealWorld<'_, R>, status: u8)
+where
+    R: Net<Stream = TcpStream, Listener = TcpListener> + Files + Clock + Wait + Eprint,
+{
+    if status == 0 {
+        world.say_ended();
+    } else {
+        world.wait_for_lingering();
+    }
+    let_go(world);
+}
+
 fn main(rt: HostRuntime) -> ExitCode {
     let words = match words_of(&rt) {
         Ok(words) => words,
@@ -123,11 +140,6 @@ fn main(rt: HostRuntime) -> ExitCode {
     let status = do_outside(&rt, words, &asked, ahead, &mut world, rt.stderr());
     let_go(asked);
     tell_trouble(&rt, world.trouble());
-    if status == 0 {
-        world.say_ended();
-    } else {
-        world.wait_for_lingering();
-    }
-    let_go(world);
+    end_world(world, status);
     ended(&rt, status)
 }

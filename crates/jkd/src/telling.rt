@@ -2,6 +2,7 @@
 use crate::write_sink::WriteSink;
 use jk_cli::{Order, WordsError};
 use jk_io::NoMemory;
+use real_io::is_of_socket;
 use remarks::{Ended, ReadFile, RemarkOut, remarks_on, unread_file};
 use std::alloc::Global;
 use std::io::{Read, Write};
@@ -9,9 +10,6 @@ use std::net::Net;
 use std::os::unix::net::UnixStream;
 use std::rt::Files;
 use std::{fs, io, str};
-
-/// The system's number for the open of a file that is a socket, ENXIO.
-const IS_SOCKET: i32 = 6;
 
 /// Opens and reads once more a file that the system didn't give, to learn why. A socket can't be opened: it is dialled.
 fn probe<R: Files + Net>(rt: &R, path: &str, of_stop: bool) -> io::Result<&'static str> {
@@ -22,7 +20,7 @@ fn probe<R: Files + Net>(rt: &R, path: &str, of_stop: bool) -> io::Result<&'stat
             file.read(&mut byte)?;
             Ok("a read failed")
         }
-        Err(error) if error.raw_os_error() == Some(IS_SOCKET) => {
+        Err(error) if is_of_socket(&error) => {
             UnixStream::connect(rt, path)?;
             Ok("a read failed")
         }
