@@ -1,5 +1,6 @@
 -- Where a client's head ends: with the first empty line after one that isn't. A line ends with LF, or CR LF.
-use Rattle.std.specs.Prelude.{◌≡◌, ◌≢◌, ℕ, ◌+◌, ◌<◌, ◌⊎◌, List, length, slice_index}
+use Rattle.std.specs.Prelude.{◌≡◌, ◌≢◌, ℕ, ◌+◌, ◌-◌, ◌<◌, ◌⊎◌, List, length, slice_index}
+use Rattle.std.specs.List.{between}
 
 -- a byte of a line, and none of its end
 abbrev pub IsText : List ℕ → ℕ → Type 0
@@ -27,3 +28,8 @@ pub record EndsHead (bytes : List ℕ) (n : ℕ) : Type 0 where
 -- so many bytes are fewer than a head may have
 abbrev pub IsShortHead : ℕ → Type 0
 IsShortHead count = count < 16384
+
+-- what was read ahead from a place to another has no whole head, and fewer bytes than a head may have
+pub record LacksHead (from to : ℕ) (ahead : List ℕ) : Type 0 where
+  pub none : (n : ℕ) → EndsHead (between from to ahead) n → ⊥
+  pub short : IsShortHead (to - from)

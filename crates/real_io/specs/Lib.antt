@@ -4,3 +4,5 @@ pub mod Waitless
 pub mod Heads
 pub mod Held
 pub mod Notices
+pub mod Looks
+pub mod Passing

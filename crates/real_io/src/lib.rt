@@ -9,6 +9,7 @@
 #![tactic(auto)]
 
 mod ending;
+mod failed_calls;
 mod heads;
 mod held_bytes;
 mod leisure;

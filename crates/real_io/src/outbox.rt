@@ -5,7 +5,7 @@ ghost use Rattle.real_io.specs.Waitless.{IfCame};
 
 use crate::held_bytes::HeldBytes;
 use crate::stream_end::StreamEnd;
-use crate::waited_stream::AtHand;
+use crate::waited_stream::{AtHand, LookWait};
 use jk_io::{Awaited, NoMemory, Sink};
 use std::alloc::Global;
 use std::sync::{Arc, Mutex};
@@ -87,8 +87,8 @@ impl Held<StreamEnd> {
         self.end.as_mut()?.receive(buf).ok()
     }
 
-    // Reads what is there of the client, once all that waits was sent.
-    fn at_hand(&mut self, buf: &mut [u8]) -> AtHand
+    // Looks at what comes of the client, once all that waits was sent.
+    fn look(&mut self, buf: &mut [u8], wait: LookWait) -> AtHand
         ensures count { IfCame result (λ n. n ≤ length buf.new) }
         ensures first { self.new.is_broken ≡ false → self.new.bytes ≡ [] }
     {
@@ -96,21 +96,7 @@ impl Held<StreamEnd> {
             return AtHand::Broken;
         }
         match &mut self.end {
-            Some(end) => end.at_hand(buf),
-            None => AtHand::Broken,
-        }
-    }
-
-    // Reads what is there of the client, or comes within 10 milliseconds, once all that waits was sent.
-    fn soon(&mut self, buf: &mut [u8]) -> AtHand
-        ensures count { IfCame result (λ n. n ≤ length buf.new) }
-        ensures first { self.new.is_broken ≡ false → self.new.bytes ≡ [] }
-    {
-        if !self.flush() {
-            return AtHand::Broken;
-        }
-        match &mut self.end {
-            Some(end) => end.soon(buf),
+            Some(end) => end.look(buf, wait),
             None => AtHand::Broken,
         }
     }
@@ -180,22 +166,12 @@ impl Outbox {
         self.held.try_lock()?.receive(buf)
     }
 
-    // Reads what is there of the client, once all that waits was sent.
-    pub(crate) fn at_hand(&self, buf: &mut [u8]) -> AtHand
+    // Looks at what comes of the client, once all that waits was sent.
+    pub(crate) fn look(&self, buf: &mut [u8], wait: LookWait) -> AtHand
         ensures { IfCame result (λ n. n ≤ length buf.new) }
     {
         match self.held.try_lock() {
-            Some(mut held) => held.at_hand(buf),
-            None => AtHand::Broken,
-        }
-    }
-
-    // Reads what is there of the client, or comes within 10 milliseconds, once all that waits was sent.
-    pub(crate) fn soon(&self, buf: &mut [u8]) -> AtHand
-        ensures { IfCame result (λ n. n ≤ length buf.new) }
-    {
-        match self.held.try_lock() {
-            Some(mut held) => held.soon(buf),
+            Some(mut held) => held.look(buf, wait),
             None => AtHand::Broken,
         }
     }

@@ -1,4 +1,7 @@
 //! Errors of the system that pass.
+ghost use Rattle.std.specs.Prelude.{◌↔◌, IsTrue};
+ghost use Rattle.std.specs.IoError.{raw_os_error};
+ghost use Rattle.real_io.specs.Passing.{IsWanting};
 
 use libc::net::poll;
 use std::io;
@@ -9,7 +12,9 @@ const TRY_AGAIN_MILLIS: i32 = 20;
 
 /// Too few descriptors, too many files or too little memory for a moment. The numbers are those of Linux for ENFILE, EMFILE
 /// and ENOBUFS.
-pub fn is_wanting(error: &io::Error) -> bool {
+pub fn is_wanting(error: &io::Error) -> bool
+    ensures { IsTrue result ↔ IsWanting (raw_os_error error.now) }
+{
     matches!(error.raw_os_error(), Some(23 | 24 | 105))
 }
 

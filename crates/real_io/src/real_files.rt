@@ -1,8 +1,8 @@
 //! The files and the clock of the system.
 ghost use Rattle.std.specs.Prelude.{◌≡◌, ◌≤◌, ◌↔◌, IfOk, IsTrue, Some, false, length, pos, true};
 ghost use Rattle.std.specs.IoError.{raw_os_error};
-ghost use Rattle.jk_io.specs.Told.{Rose};
 
+use crate::failed_calls::FailedCalls;
 use crate::std_streams::ReadSource;
 use jk_io::{Bytes, Clock, FileError, Files, MAX_INPUT_BYTES, read_whole};
 use std::alloc::Global;
@@ -25,7 +25,7 @@ pub struct RealFiles<'r, R: SystemFiles + Net> {
     rt: &'r R,
     /// Only a socket is read: any other file can't be.
     sockets: bool,
-    failed: u64,
+    failed: FailedCalls,
 }
 
 impl<'r, R: SystemFiles + Net> RealFiles<'r, R> {
@@ -35,7 +35,7 @@ impl<'r, R: SystemFiles + Net> RealFiles<'r, R> {
         RealFiles {
             rt,
             sockets: false,
-            failed: 0,
+            failed: FailedCalls::none(),
         }
     }
 
@@ -46,15 +46,8 @@ impl<'r, R: SystemFiles + Net> RealFiles<'r, R> {
         RealFiles {
             rt,
             sockets: true,
-            failed: 0,
+            failed: FailedCalls::none(),
         }
-    }
-
-    fn fail(&mut self) -> FileError
-        ensures { (result ≡ FileError.Failed) × Rose self.old.failed self.new.failed × (self.old.failed ≤ self.new.failed) }
-    {
-        self.failed = self.failed.saturating_add(1);
-        FileError::Failed
     }
 }
 
@@ -68,7 +61,10 @@ impl<'r, R: SystemFiles + Net> Files for RealFiles<'r, R> {
     /// A name that isn't UTF-8 is that of no file.
     fn read_file(&mut self, alloc: Global, name: &Bytes) -> Result<Bytes, FileError> {
         match read_named(self.rt, alloc, name, self.sockets) {
-            Err(FileError::Failed) => Err(self.fail()),
+            Err(FileError::Failed) => {
+                self.failed.fail();
+                Err(FileError::Failed)
+            }
             answer => answer,
         }
     }

@@ -2,6 +2,7 @@
 ghost use Rattle.std.specs.Prelude.{◌≡◌, ◌≤◌, IsOk, IfOk, length};
 ghost use Rattle.jk_io.specs.Told.{HasCause};
 
+use crate::failed_calls::FailedCalls;
 use jk_io::{IoError, Meanings, Sink, Source};
 use std::io::{ErrorKind, Read};
 
@@ -9,7 +10,7 @@ use std::io::{ErrorKind, Read};
 #[derive(Drop)]
 pub struct ReadSource<T: Read + Drop> {
     reader: T,
-    failed: u64,
+    failed: FailedCalls,
 }
 
 /// A source over standard input.
@@ -19,7 +20,10 @@ impl<T: Read + Drop> ReadSource<T> {
     pub fn new(reader: T) -> ReadSource<T>
         ensures { (result.reader ≡ reader) × (result.failed ≡ 0) }
     {
-        ReadSource { reader, failed: 0 }
+        ReadSource {
+            reader,
+            failed: FailedCalls::none(),
+        }
     }
 }
 
@@ -49,7 +53,7 @@ impl<T: Read + Drop> Source for ReadSource<T> {
 pub(crate) fn receive<T: Read>(
     reader: &mut T,
     buf: &mut [u8],
-    failed: &mut u64,
+    failed: &mut FailedCalls,
 ) -> Result<usize, IoError>
     ensures count { IfOk result (λ n. n ≤ length buf.new) }
     ensures cause { HasCause failed.old failed.new result }
@@ -62,22 +66,24 @@ pub(crate) fn receive<T: Read>(
             Err(_) => break,
         }
     }
-    *failed = failed.saturating_add(1);
-    Err(IoError::Failed)
+    Err(failed.fail())
 }
 
 /// A sink over standard output. It tells nothing of what is written.
 #[derive(Drop)]
 pub struct StdOut<'r, P: Print> {
     rt: &'r P,
-    failed: u64,
+    failed: FailedCalls,
 }
 
 impl<'r, P: Print> StdOut<'r, P> {
     pub fn new(rt: &'r P) -> StdOut<'r, P>
         ensures { result.failed ≡ 0 }
     {
-        StdOut { rt, failed: 0 }
+        StdOut {
+            rt,
+            failed: FailedCalls::none(),
+        }
     }
 }
 
@@ -101,10 +107,7 @@ impl<'r, P: Print> Sink for StdOut<'r, P> {
     fn write(&mut self, piece: &[u8]) -> Result<usize, IoError> {
         match self.rt.write_some(piece) {
             Ok(n) if n > 0 => Ok(n),
-            _ => {
-                self.failed = self.failed.saturating_add(1);
-                Err(IoError::Failed)
-            }
+            _ => Err(self.failed.fail()),
         }
     }
 }

@@ -1,10 +1,11 @@
 //! This side's end of a TCP stream: the stream, as it is waited for, and how many calls of it failed.
 ghost use Rattle.std.specs.Prelude.{◌≡◌, ◌≤◌, IfOk, IsOk, Some, length};
-ghost use Rattle.jk_io.specs.Told.{HasCause, Rose};
+ghost use Rattle.jk_io.specs.Told.{HasCause};
 ghost use Rattle.real_io.specs.Waitless.{IfCame};
 
 use crate::ending::Ending;
-use crate::waited_stream::{AtHand, WaitedStream};
+use crate::failed_calls::FailedCalls;
+use crate::waited_stream::{AtHand, LookWait, WaitedStream};
 use jk_io::{Awaited, ClientLimits, IoError, Meanings, NoMemory, Sink};
 use std::alloc::Global;
 use std::net::{IpAddr, TcpStream};
@@ -14,7 +15,7 @@ use std::os::fd::RawFd;
 #[derive(Drop)]
 pub struct StreamEnd {
     stream: WaitedStream,
-    failed: u64,
+    failed: FailedCalls,
 }
 
 impl StreamEnd {
@@ -30,7 +31,10 @@ impl StreamEnd {
     pub(crate) fn over(stream: WaitedStream) -> StreamEnd
         ensures { result ≡ record { stream = stream; failed = 0 } }
     {
-        StreamEnd { stream, failed: 0 }
+        StreamEnd {
+            stream,
+            failed: FailedCalls::none(),
+        }
     }
 
     /// A client's end, which keeps to these limits. For want of memory the stream is closed.
@@ -77,14 +81,6 @@ impl StreamEnd {
         self.stream.await_next(what);
     }
 
-    fn fail(&mut self) -> IoError
-        ensures error { result ≡ IoError.Failed }
-        ensures rose { Rose self.old.failed self.new.failed × (self.old.failed ≤ self.new.failed) }
-    {
-        self.failed = self.failed.saturating_add(1);
-        IoError::Failed
-    }
-
     /// Reads, and waits for bytes as long as it may.
     pub fn receive(&mut self, buf: &mut [u8]) -> Result<usize, IoError>
         ensures count { IfOk result (λ n. n ≤ length buf.new) }
@@ -93,7 +89,7 @@ impl StreamEnd {
     {
         match self.stream.receive(buf) {
             Some(n) => Ok(n),
-            None => Err(self.fail()),
+            None => Err(self.failed.fail()),
         }
     }
 
@@ -102,15 +98,18 @@ impl StreamEnd {
         ensures count { IfCame result (λ n. n ≤ length buf.new) }
         ensures same { self.new.failed ≡ self.old.failed }
     {
-        self.stream.at_hand(buf)
+        self.look(buf, LookWait::AtOnce)
     }
 
-    /// Reads what is there, or comes within 10 milliseconds.
-    pub(crate) fn soon(&mut self, buf: &mut [u8]) -> AtHand
+    /// Reads what comes while it waits so long.
+    pub(crate) fn look(&mut self, buf: &mut [u8], wait: LookWait) -> AtHand
         ensures count { IfCame result (λ n. n ≤ length buf.new) }
         ensures same { self.new.failed ≡ self.old.failed }
     {
-        self.stream.soon(buf)
+        match wait {
+            LookWait::AtOnce => self.stream.at_hand(buf),
+            LookWait::Brief => self.stream.soon(buf),
+        }
     }
 
     /// Whether no byte is there and the other side didn't close, as far as can be seen now.
@@ -139,7 +138,7 @@ impl Sink for StreamEnd {
     fn write(&mut self, piece: &[u8]) -> Result<usize, IoError> {
         match self.stream.send(piece) {
             Some(n) => Ok(n),
-            None => Err(self.fail()),
+            None => Err(self.failed.fail()),
         }
     }
 }

@@ -3,6 +3,7 @@ ghost use Rattle.std.specs.Prelude.{◌≡◌, ◌-◌, ◌*◌, ◌^◌, ◌<�
 ghost use Rattle.std.specs.Duration.{as_nanos};
 
 use crate::ending::Ending;
+use crate::failed_calls::FailedCalls;
 use crate::moments::moment;
 use crate::notices::{Failure, Notices, Watched};
 use crate::outbox::Outbox;
@@ -36,7 +37,7 @@ pub struct TcpDial<'r, R: Net<Stream = TcpStream>> {
     ending: Option<Ending>,
     /// Where it is said that a member fails.
     notices: Option<Notices>,
-    failed: u64,
+    failed: FailedCalls,
 }
 
 impl<'r, R: Net<Stream = TcpStream>> TcpDial<'r, R> {
@@ -50,7 +51,7 @@ impl<'r, R: Net<Stream = TcpStream>> TcpDial<'r, R> {
             keepalive: false,
             ending: None,
             notices: None,
-            failed: 0,
+            failed: FailedCalls::none(),
         }
     }
 
@@ -127,10 +128,7 @@ impl<'r, R: Net<Stream = TcpStream>> Dial for TcpDial<'r, R> {
         self.tell(host, port, &answer);
         match answer {
             Ok(stream) => Ok(self.link_over(alloc, self.end_of(alloc, stream, host, port)?)?),
-            Err(_) => {
-                self.failed = self.failed.saturating_add(1);
-                Err(IoError::Failed)
-            }
+            Err(_) => Err(self.failed.fail()),
         }
     }
 

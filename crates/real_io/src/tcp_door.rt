@@ -1,9 +1,10 @@
 //! Accepting TCP streams.
-ghost use Rattle.std.specs.Prelude.{◌≡◌, ◌≢◌, ◌+◌, ◌-◌, ◌<◌, ◌≤◌, ◌↔◌, Some, IsTrue, IsOk, IfOk, OnErr, IfSome, IfNone};
+ghost use Rattle.std.specs.Prelude.{◌≡◌, ◌≢◌, ◌+◌, ◌-◌, ◌<◌, ◌↔◌, Some, IsTrue, IsOk, IfOk, OnErr, IfSome, IfNone};
 ghost use Rattle.std.specs.Option.{option_map};
-ghost use Rattle.jk_io.specs.Told.{Rose, HasCause};
+ghost use Rattle.jk_io.specs.Told.{HasCause};
 ghost use Rattle.real_io.specs.declared.waited_stream.Patience.TheVariants as patience;
 
+use crate::failed_calls::FailedCalls;
 use crate::outbox::Outbox;
 use crate::passing::{is_passing, pause};
 use crate::stream_end::StreamEnd;
@@ -32,7 +33,7 @@ pub struct TcpDoor {
     clients: Option<u64>,
     /// How many links are out and may be left.
     out: u64,
-    failed: u64,
+    failed: FailedCalls,
 }
 
 impl TcpDoor {
@@ -45,7 +46,7 @@ impl TcpDoor {
             outbox: None,
             clients,
             out: 0,
-            failed: 0,
+            failed: FailedCalls::none(),
         }
     }
 
@@ -59,17 +60,8 @@ impl TcpDoor {
             outbox: Some(outbox),
             clients,
             out: 0,
-            failed: 0,
+            failed: FailedCalls::none(),
         }
-    }
-
-    fn fail(&mut self) -> IoError
-        ensures error { result ≡ IoError.Failed }
-        ensures rose { Rose self.old.failed self.new.failed × (self.old.failed ≤ self.new.failed) }
-        ensures same { (self.new.out ≡ self.old.out) × (self.new.clients ≡ self.old.clients) }
-    {
-        self.failed = self.failed.saturating_add(1);
-        IoError::Failed
     }
 }
 
@@ -105,7 +97,7 @@ impl Door for TcpDoor {
             return Ok(None);
         }
         let Some(out) = self.out.checked_add(1) else {
-            return Err(self.fail());
+            return Err(self.failed.fail());
         };
         match next_client(alloc, &self.listener, self.outbox.as_ref())? {
             Some(client) => {
@@ -113,7 +105,7 @@ impl Door for TcpDoor {
                 self.out = out;
                 Ok(Some(client))
             }
-            None => Err(self.fail()),
+            None => Err(self.failed.fail()),
         }
     }
 

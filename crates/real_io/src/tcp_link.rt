@@ -1,17 +1,19 @@
 //! A link over a TCP stream.
-ghost use Rattle.std.specs.Prelude.{◌≡◌, ◌≢◌, ◌+◌, ◌-◌, ◌<◌, ◌≤◌, ◌⊎◌, ℕ, IfOk, IfSome, IsOk, None, false, length, take, drop, true, vec_len};
-ghost use Rattle.jk_io.specs.Told.{HasCause, Rose};
+ghost use Rattle.std.specs.Prelude.{◌≡◌, ◌≢◌, ◌+◌, ◌-◌, ◌<◌, ◌≤◌, ◌⊎◌, ℕ, IfOk, IfSome, IsOk, false, length, take, drop, true, vec_len};
+ghost use Rattle.jk_io.specs.Told.{HasCause};
 ghost use Rattle.std.specs.List.{between};
-ghost use Rattle.real_io.specs.Heads.{EndsHead, IsShortHead};
+ghost use Rattle.real_io.specs.Heads.{EndsHead, IsShortHead, LacksHead};
+ghost use Rattle.real_io.specs.Looks.{IsBrief};
 ghost use Rattle.real_io.specs.Unflushed.{unflushed_with, replies_after};
 ghost use Rattle.real_io.specs.Waitless.{IfCame};
 
+use crate::failed_calls::FailedCalls;
 use crate::heads::{MAX_HEAD_BYTES, head_end};
 use crate::leisure::{LOOK_MILLIS, Leisure, MOST_LOOK_MILLIS};
 use crate::outbox::Outbox;
 use crate::stream_end::StreamEnd;
 use crate::unflushed::Unflushed;
-use crate::waited_stream::AtHand;
+use crate::waited_stream::{AtHand, LookWait};
 use jk_io::{Awaited, IoError, Link, Meanings, NoMemory, Sink, Source};
 use std::alloc::Global;
 use std::net::TcpStream;
@@ -58,7 +60,7 @@ pub struct TcpLink {
     is_slow: bool,
     /// Its door goes on hearing of what comes of its client.
     is_heard: bool,
-    failed: u64,
+    failed: FailedCalls,
     ghost within: { (from ≤ to) × (to ≤ vec_len ahead) },
 }
 
@@ -170,7 +172,7 @@ impl TcpLink {
             looked: 0,
             is_slow: false,
             is_heard: false,
-            failed: 0,
+            failed: FailedCalls::none(),
         }
     }
 
@@ -269,8 +271,7 @@ impl TcpLink {
 
     // Whether no whole head was read ahead, and fewer bytes than a head may have.
     fn lacks_head(&self) -> bool
-        ensures none { result ≡ true → (n : ℕ) → EndsHead (between self.now.from self.now.to self.now.ahead.items) n → ⊥ }
-        ensures short { result ≡ true → IsShortHead (self.now.to - self.now.from) }
+        ensures lacks { result ≡ true → LacksHead self.now.from self.now.to self.now.ahead.items }
         ensures whole { result ≡ false → IsShortHead (self.now.to - self.now.from)
             → (n : ℕ) × EndsHead (between self.now.from self.now.to self.now.ahead.items) n }
     {
@@ -285,11 +286,8 @@ impl TcpLink {
 
     // Whether more of a client's next head is waited for; what is at hand of it is read ahead.
     fn wants_more(&mut self) -> bool
-        ensures none { result ≡ true → (n : ℕ) → EndsHead (between self.new.from self.new.to self.new.ahead.items) n → ⊥ }
-        ensures brief { self.new.looked ≤ self.old.looked + 10 }
-        ensures few { self.new.looked ≤ 2560 ⊎ (self.new.looked ≡ self.old.looked) }
-        ensures untold { self.old.leisure ≡ None → self.new.looked ≡ self.old.looked }
-        ensures short { result ≡ true → IsShortHead (self.new.to - self.new.from) }
+        ensures lacks { result ≡ true → LacksHead self.new.from self.new.to self.new.ahead.items }
+        ensures looked { IsBrief self.old.leisure self.old.looked self.new.looked }
         ensures same { self.new.failed ≡ self.old.failed }
     {
         if !self.lacks_head() {
@@ -307,9 +305,7 @@ impl TcpLink {
     // Reads what is there of its client; or, where nothing of it was read ahead and workers are free, what comes within 10 milliseconds.
     fn look(&mut self) -> AtHand
         ensures count { IfCame result (λ n. self.new.to + n ≤ vec_len self.new.ahead) }
-        ensures brief { self.new.looked ≤ self.old.looked + 10 }
-        ensures few { self.new.looked ≤ 2560 ⊎ (self.new.looked ≡ self.old.looked) }
-        ensures untold { self.old.leisure ≡ None → self.new.looked ≡ self.old.looked }
+        ensures looked { IsBrief self.old.leisure self.old.looked self.new.looked }
         ensures same { (self.new.from ≡ self.old.from) × (self.new.to ≡ self.old.to) × (self.new.failed ≡ self.old.failed) }
     {
         if self.from == self.to
@@ -318,11 +314,11 @@ impl TcpLink {
             && leisure.is_there()
         {
             self.looked += LOOK_MILLIS;
-            let came = self.wire.soon(&mut self.ahead[self.to..]);
+            let came = self.wire.look(&mut self.ahead[self.to..], LookWait::Brief);
             self.is_slow = came == AtHand::Nothing;
             return came;
         }
-        self.wire.at_hand(&mut self.ahead[self.to..])
+        self.wire.look(&mut self.ahead[self.to..], LookWait::AtOnce)
     }
 
     // Empties the outbox whose bytes go first.
@@ -332,16 +328,6 @@ impl TcpLink {
         {
             outbox.flush();
         }
-    }
-
-    fn fail(&mut self) -> IoError
-        ensures error { result ≡ IoError.Failed }
-        ensures rose { Rose self.old.failed self.new.failed × (self.old.failed ≤ self.new.failed) }
-        ensures same { (self.new.from ≡ self.old.from) × (self.new.to ≡ self.old.to) × (self.new.ahead ≡ self.old.ahead) }
-        ensures uncounted { self.new.replies ≡ self.old.replies }
-    {
-        self.failed = self.failed.saturating_add(1);
-        IoError::Failed
     }
 
     // Reads ahead, where nothing is ahead.
@@ -357,7 +343,7 @@ impl TcpLink {
                 self.to = n;
                 Ok(())
             }
-            None => Err(self.fail()),
+            None => Err(self.failed.fail()),
         }
     }
 }
@@ -373,23 +359,13 @@ impl Wire {
         }
     }
 
-    // One read that doesn't wait.
-    fn at_hand(&mut self, buf: &mut [u8]) -> AtHand
+    // One read that waits so long.
+    fn look(&mut self, buf: &mut [u8], wait: LookWait) -> AtHand
         ensures { IfCame result (λ n. n ≤ length buf.new) }
     {
         match self {
-            Wire::End(end) => end.at_hand(buf),
-            Wire::Outbox(outbox) => outbox.at_hand(buf),
-        }
-    }
-
-    // One read that waits for 10 milliseconds at most.
-    fn soon(&mut self, buf: &mut [u8]) -> AtHand
-        ensures { IfCame result (λ n. n ≤ length buf.new) }
-    {
-        match self {
-            Wire::End(end) => end.soon(buf),
-            Wire::Outbox(outbox) => outbox.soon(buf),
+            Wire::End(end) => end.look(buf, wait),
+            Wire::Outbox(outbox) => outbox.look(buf, wait),
         }
     }
 
@@ -477,7 +453,7 @@ impl Source for TcpLink {
             if buf.len() >= AHEAD_BYTES {
                 return match self.wire.receive(buf) {
                     Some(n) => Ok(n),
-                    None => Err(self.fail()),
+                    None => Err(self.failed.fail()),
                 };
             }
             self.read_ahead()?;
@@ -507,7 +483,7 @@ impl Sink for TcpLink {
                 self.unflushed = self.unflushed.with(piece);
                 Ok(n)
             }
-            None => Err(self.fail()),
+            None => Err(self.failed.fail()),
         }
     }
 
@@ -526,7 +502,7 @@ impl Sink for TcpLink {
             self.unflushed = Unflushed::Nothing;
             return Ok(());
         }
-        Err(self.fail())
+        Err(self.failed.fail())
     }
 }
 
@@ -535,17 +511,12 @@ impl Link for TcpLink {
     ghost found_quiet = { λ before after. before.from ≡ before.to };
 
     fn waits(&mut self) -> bool
-        // Where it waits, no whole head is there.
-        ensures none { result ≡ true → (n : ℕ) → EndsHead (between self.new.from self.new.to self.new.ahead.items) n → ⊥ }
-
-        // Nor as many bytes as a head may have.
-        ensures short { result ≡ true → IsShortHead (self.new.to - self.new.from) }
+        // Where it waits, no whole head is there, nor as many bytes as a head may have.
+        ensures lacks { result ≡ true → LacksHead self.new.from self.new.to self.new.ahead.items }
         ensures idle { result ≡ self.new.is_idle }
 
         // It waits for its client for 10 milliseconds at most, 256 times at most, and only where it is told whether workers are free.
-        ensures brief { self.new.looked ≤ self.old.looked + 10 }
-        ensures few { self.new.looked ≤ 2560 ⊎ (self.new.looked ≡ self.old.looked) }
-        ensures untold { self.old.leisure ≡ None → self.new.looked ≡ self.old.looked }
+        ensures looked { IsBrief self.old.leisure self.old.looked self.new.looked }
 
         // What each link says.
         ensures same { self.new.failed ≡ self.old.failed }

@@ -30,6 +30,15 @@ enum Patience {
     Until(u64),
 }
 
+/// How long a look at a client waits for its bytes.
+#[derive(Clone, Copy)]
+pub(crate) enum LookWait {
+    /// Not at all.
+    AtOnce,
+    /// For `LOOK_MILLIS` at most.
+    Brief,
+}
+
 /// What a read that doesn't wait found.
 #[derive(Clone, Copy, Debug, PartialEq, Eq)]
 pub enum AtHand {
