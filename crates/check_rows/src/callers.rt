@@ -7,7 +7,8 @@ ghost use Rattle.jk_io.specs.Told.{appended, prepended, IsEmpty, HasCause};
 ghost use Rattle.jk_io.specs.MemReaches.{IsQuiet};
 
 use jk_io::{
-    Bytes, Door, FileError, IoError, Link, MemReach, Reach, Source, Talk, read_whole, write_all,
+    Bytes, Door, FileError, IoError, Link, MemReach, Reach, Source, Talk, TalkAsked, read_whole,
+    write_all,
 };
 use std::alloc::Global;
 
@@ -41,6 +42,19 @@ pub fn pass_on<D: Door>(alloc: Global, door: &mut D) -> Result<bool, IoError>
     }
 }
 
+/// A talk over any link with a member of the first balancer.
+fn first_with(member: u32, host: &Bytes) -> TalkAsked<'_>
+    ensures { (result.lb ≡ 0) × (result.member ≡ member) }
+{
+    TalkAsked {
+        lb: 0,
+        member,
+        host,
+        port: 8009,
+        fresh: false,
+    }
+}
+
 /// One talk: begins it, writes a piece, reads once and ends it.
 pub fn ask<R: Reach>(
     alloc: Global,
@@ -60,7 +74,8 @@ pub fn ask<R: Reach>(
     ensures cause { HasCause (R.faults reach.old) (R.faults reach.new) result }
     ensures steady { IsOk result → R.faults reach.new ≡ R.faults reach.old }
 {
-    reach.begin(alloc, 0, member, host, 8009, false)?;
+    let asked = first_with(member, host);
+    reach.begin(alloc, &asked)?;
     match say(reach, piece, buf) {
         Ok(n) => {
             reach.finish(true);
@@ -98,7 +113,8 @@ pub fn quiet_talk(
     ensures steady { reach.new.faults ≡ reach.old.faults }
     ensures quiet { IsQuiet reach.new }
 {
-    reach.begin(alloc, 0, member, host, 8009, false)?;
+    let asked = first_with(member, host);
+    reach.begin(alloc, &asked)?;
     let answer = reach.read(buf);
     reach.finish(answer.is_ok());
     answer

@@ -1,7 +1,7 @@
 -- A begin over a link that was dialled: refused, without memory for its note, or a talk over the new link.
-use Rattle.std.proofs.Common.{◌≡◌, ℕ, Bool, true, false, List, [], ◌∷◌, Some, None, Result, Ok, Err, IsErrAnd, refl, sym, ap, ◌∙◌, subst}
-use Rattle.std.specs.Prelude.{Option, IfSome, IsSomeAnd, IfOk, IfErr, OnOk, OnErr, IsOk, IsErrOf, is_some}
-use Rattle.jk_io.specs.Told.{appended, IsEmpty, HasCause}
+use Rattle.std.proofs.Common.{◌≡◌, Bool, true, false, List, [], ◌∷◌, Some, None, Result, Ok, Err, IsErrAnd, refl, sym, ap, ◌∙◌, subst}
+use Rattle.std.specs.Prelude.{Option, IfSome, IsSomeAnd, IfOk, IfErr, OnOk, OnErr, IsErrOf, is_some}
+use Rattle.jk_io.specs.Told.{appended, IsEmpty}
 use Rattle.jk_io.specs.declared.failures.IoError.{IoError}
 use Rattle.jk_io.specs.declared.failures.IoError.TheVariants as Io
 use Rattle.jk_io.specs.declared.reaching.Begun.{Begun}
@@ -10,9 +10,9 @@ use Rattle.conn_pool.specs.Begins.{Opens, IsQuiet, TapeSight, talks_refused}
 use Rattle.conn_pool.specs.Reaches.{LentState}
 use Rattle.conn_pool.proofs.BeginLaws.{link_of}
 
--- what is told of such a begin: of its answer, the dial's, the link, the tape and the count of faults
+-- what is told of such a begin: of its answer, the dial's, the link and the tape
 pub record DialledBegin {L : Type 0} (Running Idle : Type 0) (b : Begun) (talk : Talk) (talks : Option (List Talk)) (now : TapeSight)
-    (lent : Option (LentState L)) (answer : Result L IoError) (count count' : ℕ) (result : Result Bool IoError) : Type 0 where
+    (lent : Option (LentState L)) (answer : Result L IoError) (result : Result Bool IoError) : Type 0 where
   pub new_link : IfOk result (λ dialled. dialled ≡ true)
   pub began : OnOk result (Opens b talks now lent)
   pub refused : IfErr result (λ e. IsQuiet (talks_refused talk talks e) now)
@@ -20,16 +20,13 @@ pub record DialledBegin {L : Type 0} (Running Idle : Type 0) (b : Begun) (talk :
   pub idle : OnErr result ((lent ≡ None) × Idle)
   pub given : OnOk result (IsSomeAnd lent (λ l. answer ≡ Ok l.given))
   pub fails : IsErrOf result Io.Failed → IsErrOf answer Io.Failed
-  pub cause : HasCause count count' result
-  pub steady : IsOk result → count' ≡ count
-  pub want_of_memory : IsErrOf result Io.NoMemory → count' ≡ count
 
 refused_so : {L : Type 0} (Running Idle : Type 0) (b : Begun) (talk : Talk) (talks : Option (List Talk)) (now : TapeSight) (lent : Option (LentState L))
-    (answer told : Result L IoError) (count count' : ℕ) (e : IoError) → told ≡ Err e → (IsErrOf told Io.Failed → told ≡ answer)
+    (answer told : Result L IoError) (e : IoError) → told ≡ Err e → (IsErrOf told Io.Failed → told ≡ answer)
     → (IsErrOf told Io.Failed → now.talks ≡ appended talks (talk ∷ [])) → (IsErrOf told Io.NoMemory → now.talks ≡ talks)
-    → IsEmpty now.sent × IsEmpty now.received → (lent ≡ None) × Idle → HasCause count count' told → (IsErrOf told Io.NoMemory → count' ≡ count)
-    → DialledBegin Running Idle b talk talks now lent answer count count' (Err e)
-refused_so Running Idle b talk talks now lent answer told count count' Io.Failed is same failed wanted empty idle cause wants = record {
+    → IsEmpty now.sent × IsEmpty now.received → (lent ≡ None) × Idle
+    → DialledBegin Running Idle b talk talks now lent answer (Err e)
+refused_so Running Idle b talk talks now lent answer told Io.Failed is same failed wanted empty idle = record {
   new_link = tt;
   began = tt;
   refused = record { empty = empty; talks_kept = failed is };
@@ -37,11 +34,8 @@ refused_so Running Idle b talk talks now lent answer told count count' Io.Failed
   idle = idle;
   given = tt;
   fails = λ _. sym (same is) ∙ is;
-  cause = record { no_fewer = cause.no_fewer; failed = λ _. cause.failed is; wanted = λ no. absurd cc };
-  steady = λ no. absurd cc;
-  want_of_memory = λ no. absurd cc;
 }
-refused_so Running Idle b talk talks now lent answer told count count' Io.NoMemory is same failed wanted empty idle cause wants = record {
+refused_so Running Idle b talk talks now lent answer told Io.NoMemory is same failed wanted empty idle = record {
   new_link = tt;
   began = tt;
   refused = record { empty = empty; talks_kept = wanted is };
@@ -49,30 +43,27 @@ refused_so Running Idle b talk talks now lent answer told count count' Io.NoMemo
   idle = idle;
   given = tt;
   fails = λ no. absurd cc;
-  cause = record { no_fewer = cause.no_fewer; failed = λ no. absurd cc; wanted = λ _. wants is };
-  steady = λ no. absurd cc;
-  want_of_memory = λ _. wants is;
 }
 
 -- the dial was refused, or its note
 pub refused_dial : {L : Type 0} (Running Idle : Type 0) (b : Begun) (talk : Talk) (talks : Option (List Talk)) (now : TapeSight) (lent : Option (LentState L))
-    (answer told : Result L IoError) (count count' : ℕ) (result : Result Bool IoError) (e : IoError) → told ≡ Err e → result ≡ Err e
+    (answer told : Result L IoError) (result : Result Bool IoError) (e : IoError) → told ≡ Err e → result ≡ Err e
     → (IsErrOf told Io.Failed → told ≡ answer)
     → (IsErrOf told Io.Failed → now.talks ≡ appended talks (talk ∷ [])) → (IsErrOf told Io.NoMemory → now.talks ≡ talks)
-    → IsEmpty now.sent × IsEmpty now.received → (lent ≡ None) × Idle → HasCause count count' told → (IsErrOf told Io.NoMemory → count' ≡ count)
-    → DialledBegin Running Idle b talk talks now lent answer count count' result
-refused_dial Running Idle b talk talks now lent answer told count count' result e is ends same failed wanted empty idle cause wants =
-    subst (λ (r : Result Bool IoError). DialledBegin Running Idle b talk talks now lent answer count count' r) (sym ends)
-    (refused_so Running Idle b talk talks now lent answer told count count' e is same failed wanted empty idle cause wants)
+    → IsEmpty now.sent × IsEmpty now.received → (lent ≡ None) × Idle
+    → DialledBegin Running Idle b talk talks now lent answer result
+refused_dial Running Idle b talk talks now lent answer told result e is ends same failed wanted empty idle =
+    subst (λ (r : Result Bool IoError). DialledBegin Running Idle b talk talks now lent answer r) (sym ends)
+    (refused_so Running Idle b talk talks now lent answer told e is same failed wanted empty idle)
 
 -- no memory for the note of the talk
 pub unnoted_dial : {L : Type 0} (Running Idle : Type 0) (b : Begun) (talk : Talk) (talks mid : Option (List Talk)) (now : TapeSight) (lent : Option (LentState L))
-    (answer told : Result L IoError) (count count' : ℕ) (result : Result Bool IoError) → IsErrAnd result (λ e. e ≡ Io.NoMemory) → mid ≡ talks → now.talks ≡ mid
-    → IsEmpty now.sent × IsEmpty now.received → (lent ≡ None) × Idle → HasCause count count' told → count' ≡ count
-    → DialledBegin Running Idle b talk talks now lent answer count count' result
-unnoted_dial Running Idle b talk talks mid now lent answer told count count' (Ok d) wanted before after empty idle cause steady = absurd wanted
-unnoted_dial Running Idle b talk talks mid now lent answer told count count' (Err e) wanted before after empty idle cause steady =
-    subst (λ (x : IoError). DialledBegin Running Idle b talk talks now lent answer count count' (Err x)) (sym wanted) (record {
+    (answer : Result L IoError) (result : Result Bool IoError) → IsErrAnd result (λ e. e ≡ Io.NoMemory) → mid ≡ talks → now.talks ≡ mid
+    → IsEmpty now.sent × IsEmpty now.received → (lent ≡ None) × Idle
+    → DialledBegin Running Idle b talk talks now lent answer result
+unnoted_dial Running Idle b talk talks mid now lent answer (Ok d) wanted before after empty idle = absurd wanted
+unnoted_dial Running Idle b talk talks mid now lent answer (Err e) wanted before after empty idle =
+    subst (λ (x : IoError). DialledBegin Running Idle b talk talks now lent answer (Err x)) (sym wanted) (record {
       new_link = tt;
       began = tt;
       refused = record { empty = empty; talks_kept = after ∙ before };
@@ -80,9 +71,6 @@ unnoted_dial Running Idle b talk talks mid now lent answer told count count' (Er
       idle = idle;
       given = tt;
       fails = λ no. absurd cc;
-      cause = record { no_fewer = cause.no_fewer; failed = λ no. absurd cc; wanted = λ _. steady };
-      steady = λ no. absurd cc;
-      want_of_memory = λ _. steady;
     })
 
 given_so : {L : Type 0} (lent : Option (LentState L)) (answer : Result L IoError) (link : L) → is_some lent ≡ true
@@ -96,12 +84,12 @@ dialled_so (Some l) link new = new.0
 
 -- a talk over the new link
 pub noted_dial : {L : Type 0} (Running Idle : Type 0) (b : Begun) (talk : Talk) (talks mid : Option (List Talk)) (now : TapeSight) (lent : Option (LentState L))
-    (answer told : Result L IoError) (count count' : ℕ) (link : L) → b.dialled ≡ true → told ≡ Ok link → told ≡ answer → mid ≡ talks → now.talks ≡ mid
+    (answer told : Result L IoError) (link : L) → b.dialled ≡ true → told ≡ Ok link → told ≡ answer → mid ≡ talks → now.talks ≡ mid
     → IsEmpty now.sent × IsEmpty now.received → is_some lent ≡ true → IfSome lent (λ l. (l.lb ≡ b.lb) × (l.member ≡ b.member))
     → IfSome lent (λ l. (l.began ≡ l.link.faults) × (l.faulty ≡ false)) → IfSome lent (λ l. (l.dialled ≡ true) × (l.given ≡ link))
-    → Running → IfSome now.begun (λ x. x ≡ b) → HasCause count count' told → count' ≡ count
-    → DialledBegin Running Idle b talk talks now lent answer count count' (Ok true)
-noted_dial Running Idle b talk talks mid now lent answer told count count' link new is same before after empty there whose begins given running begun cause steady = record {
+    → Running → IfSome now.begun (λ x. x ≡ b)
+    → DialledBegin Running Idle b talk talks now lent answer (Ok true)
+noted_dial Running Idle b talk talks mid now lent answer told link new is same before after empty there whose begins given running begun = record {
   new_link = refl;
   began = record {
     link = link_of b lent there whose begins (subst (λ (x : Bool). IfSome lent (λ l. l.dialled ≡ x)) (sym new) (dialled_so lent link given));
@@ -115,7 +103,4 @@ noted_dial Running Idle b talk talks mid now lent answer told count count' link 
   idle = tt;
   given = given_so lent answer link there given (sym same ∙ is);
   fails = λ no. absurd cc;
-  cause = record { no_fewer = cause.no_fewer; failed = λ no. absurd cc; wanted = λ no. absurd cc };
-  steady = λ _. steady;
-  want_of_memory = λ no. absurd cc;
 }

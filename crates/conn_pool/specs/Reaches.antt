@@ -8,6 +8,7 @@ use Rattle.jk_io.specs.declared.failures.IoError.TheVariants.{Failed}
 use Rattle.jk_io.specs.declared.reaching.Begun.{Begun}
 use Rattle.jk_io.specs.declared.reaching.Beside.{Beside}
 use Rattle.jk_io.specs.declared.reaching.Talk.{Talk}
+use Rattle.jk_io.specs.declared.reaching.TalkAsked.{TalkAsked}
 
 -- the link of a running talk: whose it is, whether this talk's begin dialled it, the link as the talk got it, what it
 -- tells now, its count of faults when the talk began, and whether a call of it was refused in the talk
@@ -96,5 +97,5 @@ beside_of begun talks reach = record {
 }
 
 -- what a tape is told of a talk; it isn't told what the link had to come
-abbrev pub told_begun : ℕ → ℕ → List ℕ → ℕ → Bool → Bool → Begun
-told_begun lb member host port fresh dialled = begun_with lb member host port fresh dialled None
+abbrev pub told_begun : TalkAsked → (dialled : Bool) → Begun
+told_begun asked dialled = begun_with asked dialled None

@@ -1,17 +1,17 @@
 //! A talk begins: over an idle link of its member, or over one that was dialled for it.
-ghost use Rattle.std.specs.Prelude.{◌≡◌, [], ◌∷◌, true, false, None, IsOk, IsErrOf, IfOk, IfSome, OnOk, OnErr, is_ok, is_some};
-ghost use Rattle.jk_io.specs.Told.{appended, IsEmpty, HasCause};
-ghost use Rattle.jk_io.specs.Talks.{failed_talk};
+ghost use Rattle.std.specs.Prelude.{◌≡◌, [], ◌∷◌, true, false, None, Ok, IsOk, IsErrOf, IsSomeAnd, IfOk, IfSome, OnOk, OnErr, is_ok, is_some};
+ghost use Rattle.jk_io.specs.Told.{appended, IsEmpty};
+ghost use Rattle.jk_io.specs.Talks.{failed_talk_of};
+ghost use Rattle.conn_pool.specs.Begins.{IsRefusedBegin, Opens, sight_of};
 ghost use Rattle.conn_pool.specs.Idle.{HasMember};
 ghost use Rattle.conn_pool.specs.Reaches.{told_begun};
 
-use crate::asked::Asked;
 use crate::idle::Idle;
 use crate::keeping::Pools;
 use crate::lent::Lent;
-use crate::noted::counted;
 use crate::tape::Tape;
-use jk_io::{IoError, Link, NoMemory};
+use jk_io::{IoError, Link, NoMemory, TalkAsked};
+use std::alloc::Global;
 use std::sync::Wait;
 
 /// Begins a talk over an idle link of its member, and says whether there was one. Where the talk can't be noted, the link
@@ -20,7 +20,7 @@ pub(crate) fn begin_idle<L: Link + Drop, T: Tape, R: Wait>(
     pools: &Pools<'_, Idle<L>, R>,
     tape: &mut T,
     lent: &mut Option<Lent<L>>,
-    asked: &Asked<'_>,
+    asked: &TalkAsked<'_>,
 ) -> Result<bool, NoMemory>
     requires known { HasMember pools.now asked.now.lb asked.now.member }
     requires idle { T.is_idle tape.old }
@@ -33,8 +33,7 @@ pub(crate) fn begin_idle<L: Link + Drop, T: Tape, R: Wait>(
     ensures quiet { IfSome lent.new (λ new. (kept : L) × L.found_quiet kept new.given) }
     ensures fresh { IfOk result (λ there. asked.now.fresh ≡ true → there ≡ false) }
     ensures running { IfOk result (λ there. there ≡ true → T.is_running tape.new) }
-    ensures begun { IfOk result (λ there. there ≡ true → IfSome (T.begun tape.new) (λ b. b
-        ≡ told_begun asked.now.lb asked.now.member asked.now.host.now asked.now.port asked.now.fresh false)) }
+    ensures begun { IfOk result (λ there. there ≡ true → IfSome (T.begun tape.new) (λ b. b ≡ told_begun asked.now false)) }
     ensures idle { IfOk result (λ there. there ≡ false → T.is_idle tape.new) }
     ensures err { OnErr result ((lent.new ≡ None) × T.is_idle tape.new) }
     ensures empty { IsEmpty (T.sent tape.new) × IsEmpty (T.received tape.new) }
@@ -43,14 +42,7 @@ pub(crate) fn begin_idle<L: Link + Drop, T: Tape, R: Wait>(
     let Some(idle) = idle_link(pools, asked.lb, asked.member, asked.fresh) else {
         return Ok(false);
     };
-    let noted = tape.begin(
-        asked.lb,
-        asked.member,
-        asked.host,
-        asked.port,
-        asked.fresh,
-        false,
-    );
+    let noted = tape.begin(asked, false);
     if let Err(error) = noted {
         let _ = pools.hand_in(idle.home(), idle);
         return Err(error);
@@ -59,12 +51,39 @@ pub(crate) fn begin_idle<L: Link + Drop, T: Tape, R: Wait>(
     Ok(true)
 }
 
-/// A dial's answer, noted and counted where the dial failed, so that no talk begins.
-pub(crate) fn dialled<L: Drop, T: Tape>(
+/// Begins a talk over the link that a dial answered for it, and answers that it is new.
+pub(crate) fn begin_dialled<L: Link + Drop, T: Tape, R: Wait>(
+    alloc: Global,
+    pools: &Pools<'_, Idle<L>, R>,
+    tape: &mut T,
+    lent: &mut Option<Lent<L>>,
+    asked: &TalkAsked<'_>,
+    answer: Result<L, IoError>,
+) -> Result<bool, IoError>
+    requires known { HasMember pools.now asked.now.lb asked.now.member }
+    requires idle { T.is_idle tape.old }
+    requires empty { IsEmpty (T.sent tape.old) × IsEmpty (T.received tape.old) }
+    requires none { lent.old ≡ None }
+    ensures new_link { IfOk result (λ dialled. dialled ≡ true) }
+    ensures began { OnOk result (Opens (told_begun asked.now true)
+        (T.talks tape.old) (sight_of T.talks T.begun T.sent T.received tape.new) lent.new) }
+    ensures refused { IsRefusedBegin (failed_talk_of asked.now) (T.talks tape.old) result
+        (sight_of T.talks T.begun T.sent T.received tape.new) }
+    ensures running { OnOk result (T.is_running tape.new) }
+    ensures idle { OnErr result ((lent.new ≡ None) × T.is_idle tape.new) }
+    ensures given { OnOk result (IsSomeAnd lent.new (λ new. answer ≡ Ok new.given)) }
+    ensures fails { IsErrOf result IoError.Failed → IsErrOf answer IoError.Failed }
+{
+    let link = dialled(answer, tape, asked)?;
+    begin_new(alloc, pools, tape, lent, asked, link)?;
+    Ok(true)
+}
+
+// A dial's answer, noted where the dial failed, so that no talk begins.
+fn dialled<L: Drop, T: Tape>(
     answer: Result<L, IoError>,
     tape: &mut T,
-    failed: &mut u64,
-    asked: &Asked<'_>,
+    asked: &TalkAsked<'_>,
 ) -> Result<L, IoError>
     requires idle { T.is_idle tape.old }
     requires empty { IsEmpty (T.sent tape.old) × IsEmpty (T.received tape.old) }
@@ -73,26 +92,23 @@ pub(crate) fn dialled<L: Drop, T: Tape>(
     ensures idle { T.is_idle tape.new }
     ensures empty { IsEmpty (T.sent tape.new) × IsEmpty (T.received tape.new) }
     ensures ok { OnOk result (T.talks tape.new ≡ T.talks tape.old) }
-    ensures failed { IsErrOf result IoError.Failed → T.talks tape.new ≡ appended (T.talks tape.old)
-        (failed_talk asked.now.lb asked.now.member asked.now.host.now asked.now.port asked.now.fresh ∷ []) }
+    ensures failed { IsErrOf result IoError.Failed → T.talks tape.new ≡ appended (T.talks tape.old) (failed_talk_of asked.now ∷ []) }
     ensures wanted { IsErrOf result IoError.NoMemory → T.talks tape.new ≡ T.talks tape.old }
-    ensures cause { HasCause failed.old failed.new result }
-    ensures steady { IsOk result → failed.new ≡ failed.old }
-    ensures want_of_memory { IsErrOf result IoError.NoMemory → failed.new ≡ failed.old }
 {
     if let Err(IoError::Failed) = answer {
         note_failed(tape, asked)?;
     }
-    counted(answer, failed)
+    answer
 }
 
-/// Begins a talk over a link that was dialled for it, which gets the place where it stays. Where there is no memory for that or
-/// for the note of the talk, the link is closed.
-pub(crate) fn begin_new<L: Link + Drop, T: Tape, R: Wait>(
+// Begins a talk over a link that was dialled for it, which gets the place where it stays. Where there is no memory for that or
+// for the note of the talk, the link is closed.
+fn begin_new<L: Link + Drop, T: Tape, R: Wait>(
+    alloc: Global,
     pools: &Pools<'_, Idle<L>, R>,
     tape: &mut T,
     lent: &mut Option<Lent<L>>,
-    asked: &Asked<'_>,
+    asked: &TalkAsked<'_>,
     link: L,
 ) -> Result<(), NoMemory>
     requires known { HasMember pools.now asked.now.lb asked.now.member }
@@ -104,24 +120,16 @@ pub(crate) fn begin_new<L: Link + Drop, T: Tape, R: Wait>(
     ensures begins { IfSome lent.new (λ new. (new.began ≡ new.link.faults) × (new.faulty ≡ false)) }
     ensures new_link { IfSome lent.new (λ new. (new.dialled ≡ true) × (new.given ≡ link)) }
     ensures running { OnOk result (T.is_running tape.new) }
-    ensures begun { OnOk result (IfSome (T.begun tape.new) (λ b. b
-        ≡ told_begun asked.now.lb asked.now.member asked.now.host.now asked.now.port asked.now.fresh true)) }
+    ensures begun { OnOk result (IfSome (T.begun tape.new) (λ b. b ≡ told_begun asked.now true)) }
     ensures err { OnErr result ((lent.new ≡ None) × T.is_idle tape.new) }
     ensures empty { IsEmpty (T.sent tape.new) × IsEmpty (T.received tape.new) }
     ensures same { T.talks tape.new ≡ T.talks tape.old }
 {
-    let link = Box::new(asked.alloc, link)?;
+    let link = Box::new(alloc, link)?;
     if asked.fresh {
         close_idle(pools, asked.lb, asked.member);
     }
-    tape.begin(
-        asked.lb,
-        asked.member,
-        asked.host,
-        asked.port,
-        asked.fresh,
-        true,
-    )?;
+    tape.begin(asked, true)?;
     *lent = Some(Lent::over_new(asked.lb, asked.member, link));
     Ok(())
 }
@@ -162,22 +170,15 @@ fn close_idle<L: Drop, R: Wait>(pools: &Pools<'_, Idle<L>, R>, lb: u32, member: 
 }
 
 // Notes a talk that never began, since its dial failed.
-fn note_failed<T: Tape>(tape: &mut T, asked: &Asked<'_>) -> Result<(), NoMemory>
+fn note_failed<T: Tape>(tape: &mut T, asked: &TalkAsked<'_>) -> Result<(), NoMemory>
     requires { T.is_idle tape.old }
     ensures noted { OnOk result (T.talks tape.new ≡ appended (T.talks tape.old)
-        (failed_talk asked.now.lb asked.now.member asked.now.host.now asked.now.port asked.now.fresh ∷ [])) }
+        (failed_talk_of asked.now ∷ [])) }
     ensures err { OnErr result (T.talks tape.new ≡ T.talks tape.old) }
     ensures idle { T.is_idle tape.new }
     ensures empty { IsEmpty (T.sent tape.new) × IsEmpty (T.received tape.new) }
 {
-    tape.begin(
-        asked.lb,
-        asked.member,
-        asked.host,
-        asked.port,
-        asked.fresh,
-        false,
-    )?;
+    tape.begin(asked, false)?;
     tape.finish(false);
     Ok(())
 }

@@ -11,7 +11,6 @@
 //! Errors: those of the dial and the links; want of memory, after which every link that the watch took is back in its pool.
 #![tactic(auto)]
 
-mod asked;
 mod beginning;
 mod fate;
 mod idle;

@@ -1,22 +1,23 @@
 //! A reach whose links are dialled, or taken from the pools.
-ghost use Rattle.std.specs.Prelude.{◌≡◌, ◌<◌, ◌≤◌, [], ◌∷◌, true, false, None, Ok, IsOk, IsErr, IsErrOf, IfOk, IfSome, IsSomeAnd, OnOk, OnErr, is_ok, is_some, length, take, slice_index};
+ghost use Rattle.std.specs.Prelude.{◌≡◌, ◌<◌, ◌≤◌, [], ◌∷◌, true, false, None, Ok, IsOk, IsErrOf, IfOk, IfSome, IsSomeAnd, OnOk, OnErr, is_ok, is_some, length, take, slice_index};
 ghost use Rattle.jk_io.specs.Told.{appended, IsEmpty, Rose, HasCause};
-ghost use Rattle.jk_io.specs.Talks.{failed_talk, IsNoteOf};
+ghost use Rattle.jk_io.specs.Talks.{failed_talk_of, IsNoteOf};
 ghost use Rattle.jk_io.specs.declared.reaching.Talk.{Talk};
 ghost use Rattle.conn_pool.specs.Backs.{back_of};
 ghost use Rattle.conn_pool.specs.Idle.{HasMember, counts};
 ghost use Rattle.jk_io.specs.Moments.{moment};
 ghost use Rattle.conn_pool.specs.Reaches.{beside_of, told_begun, FlushesLink, GoesBack, ReadsLink, WritesLink, StaysLent};
 
-use crate::asked::{Asked, begin_dialled};
-use crate::beginning::begin_idle;
+use crate::beginning::{begin_dialled, begin_idle};
 use crate::idle::Idle;
 use crate::keeping::Pools;
 use crate::lent::Lent;
-use crate::noted::{flush_lent, outside_talk, read_lent, write_lent};
+use crate::noted::{counted, flush_lent, outside_talk, read_lent, write_lent};
 use crate::pool::HandedIn;
 use crate::tape::Tape;
-use jk_io::{Awaited, Beside, Bytes, Dial, IoError, Link, Meanings, NoMemory, Reach, Sink, Source};
+use jk_io::{
+    Awaited, Beside, Dial, IoError, Link, Meanings, NoMemory, Reach, Sink, Source, TalkAsked,
+};
 use std::alloc::Global;
 use std::marker::Model;
 use std::sync::Wait;
@@ -229,28 +230,21 @@ impl<'p, 'r, D: Dial, T: Tape, R> Link for PooledReach<'p, 'r, D, T, R> {
 impl<'p, 'r, D: Dial, T: Tape, R: Wait> Reach for PooledReach<'p, 'r, D, T, R> {
     ghost use Rattle.std.specs.Prelude.{refl};
 
-    fn begin(
-        &mut self,
-        alloc: Global,
-        lb: u32,
-        member: u32,
-        host: &Bytes,
-        port: u16,
-        fresh: bool,
-    ) -> Result<bool, IoError>
+    fn begin(&mut self, alloc: Global, asked: &TalkAsked<'_>) -> Result<bool, IoError>
         requires idle { is_some self.old.lent ≡ false }
-        requires known { member < slice_index self.old.sizes lb }
+        requires known { asked.now.member < slice_index self.old.sizes asked.now.lb }
 
         // The talk has a link of this member, of which no call was made in it.
         ensures runs { is_some self.new.lent ≡ is_ok result }
-        ensures whose { IfSome self.new.lent (λ lent. (lent.lb ≡ lb) × (lent.member ≡ member)) }
+        ensures whose { IfSome self.new.lent (λ lent. (lent.lb ≡ asked.now.lb) × (lent.member ≡ asked.now.member)) }
         ensures begins { IfSome self.new.lent (λ lent. (lent.began ≡ lent.link.faults) × (lent.faulty ≡ false)) }
-        ensures new_link { IfOk result (λ dialled. fresh ≡ true → dialled ≡ true) }
+        ensures new_link { IfOk result (λ dialled. asked.now.fresh ≡ true → dialled ≡ true) }
 
         // A new link is the one that the dial gave in this begin for this host and port, and no idle link is called new.
         ensures dialled { IfOk result (λ dialled. IfSome self.new.lent (λ lent. lent.dialled ≡ dialled)) }
-        ensures given { result ≡ Ok true → IfSome self.new.lent (λ lent. D.gives self.old.dial host.now port lent.given self.new.dial) }
-        ensures begun { IfOk result (λ dialled. IfSome (T.begun self.new.tape) (λ b. b ≡ told_begun lb member host.now port fresh dialled)) }
+        ensures given { result ≡ Ok true
+            → IfSome self.new.lent (λ lent. D.gives self.old.dial asked.now.host.now asked.now.port lent.given self.new.dial) }
+        ensures begun { IfOk result (λ dialled. IfSome (T.begun self.new.tape) (λ b. b ≡ told_begun asked.now dialled)) }
         ensures nothing_yet { IsEmpty (T.sent self.new.tape) × IsEmpty (T.received self.new.tape) }
 
         // Over an idle link the dial isn't asked.
@@ -267,7 +261,7 @@ impl<'p, 'r, D: Dial, T: Tape, R: Wait> Reach for PooledReach<'p, 'r, D, T, R> {
         // A begin that failed counts as an ended talk; one that wanted memory doesn't.
         ensures ok { OnOk result (T.talks self.new.tape ≡ T.talks self.old.tape) }
         ensures failed { IsErrOf result IoError.Failed
-            → T.talks self.new.tape ≡ appended (T.talks self.old.tape) (failed_talk lb member host.now port fresh ∷ []) }
+            → T.talks self.new.tape ≡ appended (T.talks self.old.tape) (failed_talk_of asked.now ∷ []) }
         ensures wanted { IsErrOf result IoError.NoMemory → T.talks self.new.tape ≡ T.talks self.old.tape }
         ensures same_sizes { self.new.sizes ≡ self.old.sizes }
         ensures same_back { self.new.back ≡ self.old.back }
@@ -275,15 +269,7 @@ impl<'p, 'r, D: Dial, T: Tape, R: Wait> Reach for PooledReach<'p, 'r, D, T, R> {
         ensures steady { IsOk result → self.new.faults ≡ self.old.faults }
         ensures want_of_memory { IsErrOf result IoError.NoMemory → self.new.faults ≡ self.old.faults }
     {
-        let asked = Asked {
-            alloc,
-            lb,
-            member,
-            host,
-            port,
-            fresh,
-        };
-        if begin_idle(self.pools, &mut self.tape, &mut self.lent, &asked)? {
+        if begin_idle(self.pools, &mut self.tape, &mut self.lent, asked)? {
             let Some(lent) = &self.lent else {
                 unreachable!()
             };
@@ -291,15 +277,16 @@ impl<'p, 'r, D: Dial, T: Tape, R: Wait> Reach for PooledReach<'p, 'r, D, T, R> {
             self.dial.lend(lent.link());
             return Ok(false);
         }
-        let answer = self.dial.dial(alloc, host, port);
-        begin_dialled(
+        let answer = self.dial.dial(alloc, asked.host, asked.port);
+        let begun = begin_dialled(
+            alloc,
             self.pools,
             &mut self.tape,
             &mut self.lent,
-            &mut self.failed,
-            &asked,
+            asked,
             answer,
-        )
+        );
+        counted(begun, &mut self.failed)
     }
 
     fn finish(&mut self, keep: bool)

@@ -4,7 +4,7 @@ ghost use Rattle.jk_io.specs.Told.{appended, IsEmpty};
 ghost use Rattle.jk_io.specs.Talks.{IsNoteOf};
 ghost use Rattle.conn_pool.specs.Reaches.{told_begun};
 
-use jk_io::{Begun, Bytes, NoMemory, Talk, TalkBook};
+use jk_io::{Begun, NoMemory, Talk, TalkAsked, TalkBook};
 use std::alloc::Global;
 use std::marker::Model;
 
@@ -36,18 +36,10 @@ pub trait Tape {
     // this many bytes can be noted without taking memory
     ghost has_room: { Self → ℕ → Type 0 };
 
-    fn begin(
-        &mut self,
-        lb: u32,
-        member: u32,
-        host: &Bytes,
-        port: u16,
-        fresh: bool,
-        dialled: bool,
-    ) -> Result<(), NoMemory>
+    fn begin(&mut self, asked: &TalkAsked<'_>, dialled: bool) -> Result<(), NoMemory>
         requires { is_idle self.old }
         ensures running { OnOk result (is_running self.new) }
-        ensures begun { OnOk result (IfSome (begun self.new) (λ b. b ≡ told_begun lb member host.now port fresh dialled)) }
+        ensures begun { OnOk result (IfSome (begun self.new) (λ b. b ≡ told_begun asked.now dialled)) }
         ensures idle { OnErr result (is_idle self.new) }
         ensures empty { IsEmpty (sent self.new) × IsEmpty (received self.new) }
         ensures talks { talks self.new ≡ talks self.old };
@@ -134,22 +126,14 @@ impl Tape for MemTape {
 
     ghost has_room = { λ t n. n ≤ t.room };
 
-    fn begin(
-        &mut self,
-        lb: u32,
-        member: u32,
-        host: &Bytes,
-        port: u16,
-        fresh: bool,
-        dialled: bool,
-    ) -> Result<(), NoMemory> {
-        let host = host.copy()?;
+    fn begin(&mut self, asked: &TalkAsked<'_>, dialled: bool) -> Result<(), NoMemory> {
+        let host = asked.host.copy()?;
         self.book.begin(Begun {
-            lb,
-            member,
+            lb: asked.lb,
+            member: asked.member,
             host,
-            port,
-            fresh,
+            port: asked.port,
+            fresh: asked.fresh,
             dialled,
             came: None,
         })
@@ -195,15 +179,7 @@ impl Tape for NoTape {
 
     ghost has_room = { λ _ _. Unit {0} };
 
-    fn begin(
-        &mut self,
-        _lb: u32,
-        _member: u32,
-        _host: &Bytes,
-        _port: u16,
-        _fresh: bool,
-        _dialled: bool,
-    ) -> Result<(), NoMemory> {
+    fn begin(&mut self, _asked: &TalkAsked<'_>, _dialled: bool) -> Result<(), NoMemory> {
         Ok(())
     }
 

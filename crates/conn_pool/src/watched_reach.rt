@@ -7,7 +7,9 @@ ghost use Rattle.conn_pool.specs.Watched.{LooksAt, RestsAt};
 
 use crate::watch::{Watch, watch_if_due};
 use crate::{Idle, PooledReach, Pools, Tape};
-use jk_io::{Awaited, Beside, Bytes, Dial, IoError, Link, Meanings, NoMemory, Reach, Sink, Source};
+use jk_io::{
+    Awaited, Beside, Dial, IoError, Link, Meanings, NoMemory, Reach, Sink, Source, TalkAsked,
+};
 use site_config::Config;
 use std::alloc::Global;
 use std::marker::Model;
@@ -127,16 +129,8 @@ impl<'p, 'r, D: Dial, T: Tape, R: Wait> Reach for WatchedReach<'p, 'r, D, T, R> 
 
     ghost looks = { λ w. option_map times_of w.watch };
 
-    fn begin(
-        &mut self,
-        alloc: Global,
-        lb: u32,
-        member: u32,
-        host: &Bytes,
-        port: u16,
-        fresh: bool,
-    ) -> Result<bool, IoError> {
-        self.reach.begin(alloc, lb, member, host, port, fresh)
+    fn begin(&mut self, alloc: Global, asked: &TalkAsked<'_>) -> Result<bool, IoError> {
+        self.reach.begin(alloc, asked)
     }
 
     fn finish(&mut self, keep: bool) {

@@ -4,7 +4,7 @@ ghost use Rattle.jk_io.specs.Told.{Rose};
 
 use crate::app_link::AppLink;
 use ajp_container::AppConfig;
-use jk_io::{Beside, Bytes, IoError, Link, Meanings, NoMemory, Reach, Sink, Source};
+use jk_io::{Beside, IoError, Link, Meanings, NoMemory, Reach, Sink, Source, TalkAsked};
 use site_config::Config;
 use std::alloc::Global;
 use std::marker::Model;
@@ -100,15 +100,7 @@ impl<'a> Link for AppReach<'a> {}
 impl<'a> Reach for AppReach<'a> {
     ghost use Rattle.std.specs.Prelude.{refl};
 
-    fn begin(
-        &mut self,
-        _alloc: Global,
-        _lb: u32,
-        _member: u32,
-        _host: &Bytes,
-        _port: u16,
-        _fresh: bool,
-    ) -> Result<bool, IoError> {
+    fn begin(&mut self, _alloc: Global, _asked: &TalkAsked<'_>) -> Result<bool, IoError> {
         self.link.clear();
         self.runs = true;
         Ok(true)

@@ -9,7 +9,7 @@ use crate::sides::Sides;
 use crate::target::Target;
 use ajp_reply::Stage;
 use ajp_talk::{Cause, TalkEnd, TalkPlan, talk};
-use jk_io::{Awaited, IoError, Link, NoMemory, Reach};
+use jk_io::{Awaited, IoError, Link, NoMemory, Reach, TalkAsked};
 use site_config::Endpoint;
 use std::alloc::Global;
 
@@ -31,10 +31,14 @@ pub(crate) fn one_talk<R: Reach, C: Link>(
 {
     let endpoint = to.endpoint;
     sides.reach.await_next(dial_of(endpoint));
-    let dialled = match sides
-        .reach
-        .begin(alloc, lb, to.member, &endpoint.host, endpoint.port, fresh)
-    {
+    let asked = TalkAsked {
+        lb,
+        member: to.member,
+        host: &endpoint.host,
+        port: endpoint.port,
+        fresh,
+    };
+    let dialled = match sides.reach.begin(alloc, &asked) {
         Ok(dialled) => dialled,
         Err(IoError::Failed) => return Ok(no_link()),
         Err(IoError::NoMemory) => return Err(NoMemory),

@@ -4,6 +4,7 @@ use Rattle.std.specs.List.{HoldsAt, AllWithin, remove}
 use Rattle.jk_io.specs.Memory.{MemLinkState, NeverFails, DialledNext}
 use Rattle.jk_io.specs.TalkBooks.{TalkBookState}
 use Rattle.jk_io.specs.Talks.{begun_with}
+use Rattle.jk_io.specs.declared.reaching.TalkAsked.{TalkAsked}
 use Rattle.jk_io.specs.declared.memory.member_link.MemberLink.{MemberLink}
 
 -- the links to come; those that were kept, in order; the running talk's link, or an empty one; the talks; the number
@@ -48,9 +49,9 @@ pub record GivesLink (lb member : ℕ) (fresh dialled : Bool) (before after : Me
   pub none : dialled ≡ true → fresh ≡ false → HasNoneOf lb member before.kept
 
 -- a begin noted the talk that runs over the link that it gave, and left the rest of the book as it was
-abbrev pub NotesBegin : ℕ → ℕ → List ℕ → ℕ → Bool → Bool → MemReachState → MemReachState → Type 0
-NotesBegin lb member host port fresh dialled before after =
-    after.book ≡ record before.book { begun = Some (begun_with lb member host port fresh dialled (Some after.running.link.incoming)) }
+abbrev pub NotesBegin : TalkAsked → (dialled : Bool) → MemReachState → MemReachState → Type 0
+NotesBegin asked dialled before after =
+    after.book ≡ record before.book { begun = Some (begun_with asked dialled (Some after.running.link.incoming)) }
 
 -- a call within a talk leaves all but the talk and its link as it was
 pub record StaysInTalk (before after : MemReachState) : Type 0 where

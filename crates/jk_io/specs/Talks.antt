@@ -2,6 +2,7 @@
 use Rattle.std.specs.Prelude.{◌≡◌, ℕ, List, [], Option, None, IfSome, Bool, false}
 use Rattle.jk_io.specs.declared.reaching.Talk.{Talk}
 use Rattle.jk_io.specs.declared.reaching.Begun.{Begun}
+use Rattle.jk_io.specs.declared.reaching.TalkAsked.{TalkAsked}
 
 -- what a talk was begun with
 abbrev pub begun_of : Talk → Begun
@@ -15,14 +16,14 @@ begun_of talk = record {
   came = talk.came;
 }
 
--- what a talk is begun with, the link new or not, and what it has to come where that is told
-abbrev pub begun_with : ℕ → ℕ → List ℕ → ℕ → Bool → Bool → Option (List ℕ) → Begun
-begun_with lb member host port fresh dialled came = record {
-  lb = lb;
-  member = member;
-  host = host;
-  port = port;
-  fresh = fresh;
+-- what the talk that was asked for is begun with: its link new or not, and what that has to come where it is told
+abbrev pub begun_with : TalkAsked → (dialled : Bool) → (came : Option (List ℕ)) → Begun
+begun_with asked dialled came = record {
+  lb = asked.lb;
+  member = asked.member;
+  host = asked.host.now;
+  port = asked.port;
+  fresh = asked.fresh;
   dialled = dialled;
   came = came;
 }
@@ -41,6 +42,10 @@ failed_talk lb member host port fresh = record {
   received = [];
   keep = false;
 }
+
+-- so of the talk that was asked for
+abbrev pub failed_talk_of : TalkAsked → Talk
+failed_talk_of asked = failed_talk asked.lb asked.member asked.host.now asked.port asked.fresh
 
 -- the note says of the running talk what is told of it, and whether its link is to be kept
 pub record IsNoteOf (begun : Option Begun) (sent received : Option (List ℕ)) (keep : Bool) (note : Talk) : Type 0 where

@@ -32,7 +32,7 @@ pub use memory::{
     ClientList, FileList, GATE_PLACES, Gate, GateLink, LinkPlan, MemDial, MemDoor, MemFiles,
     MemLink, MemLinkList, MemReach, PatientLink, StepClock, TalkBook, Turn,
 };
-pub use reaching::{Begun, Beside, Talk, TalkList};
+pub use reaching::{Begun, Beside, Talk, TalkAsked, TalkList};
 pub use reading::{Filled, Stop, fill};
 pub use traits::{Awaited, Clock, Dial, Door, Files, Link, Meanings, Peer, Reach, Sink, Source};
 pub use whole_input::{MAX_INPUT_BYTES, read_whole};

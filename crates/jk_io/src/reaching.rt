@@ -1,4 +1,4 @@
-//! Talks with the members of balancers: what is told of the one that runs, and of those that ended.
+//! Talks with the members of balancers: what one is asked for with, and what is told of the one that runs and of those that ended.
 use crate::byte_list::Bytes;
 use crate::list_of::ListOf;
 
@@ -19,6 +19,19 @@ pub struct Talk {
     pub received: Bytes,
     /// The link was to be kept for a later talk.
     pub keep: bool,
+}
+
+/// What a talk is asked for with.
+#[derive(Clone, Copy)]
+pub struct TalkAsked<'h> {
+    /// The place of the balancer, from 0.
+    pub lb: u32,
+    /// The place of the member in its balancer, from 0.
+    pub member: u32,
+    pub host: &'h Bytes,
+    pub port: u16,
+    /// A new link is asked for.
+    pub fresh: bool,
 }
 
 /// Talks in the order in which they ended.

@@ -11,7 +11,7 @@ use check_rows::telling::{put_bytes, put_count, put_shown, put_word};
 use conn_pool::{Idle, MemTape, PooledReach, Pools};
 use jk_io::{
     Bytes, Filled, IoError, ListOf, MemLink, MemLinkList, MemReach, NoMemory, NumberList, Reach,
-    Talk, fill, write_all,
+    Talk, TalkAsked, fill, write_all,
 };
 use std::alloc::Global;
 use std::sync::Wait;
@@ -125,8 +125,14 @@ fn talk<R: Reach>(alloc: Global, reach: &mut R, act: &str) -> Option<bool>
     ensures known { (R.beside reach.new).sizes ≡ (R.beside reach.old).sizes }
 {
     let host = Bytes::new(alloc);
-    let member = if act.starts_with('1') { 1 } else { 0 };
-    match reach.begin(alloc, 0, member, &host, 8009, act.contains("fresh")) {
+    let asked = TalkAsked {
+        lb: 0,
+        member: if act.starts_with('1') { 1 } else { 0 },
+        host: &host,
+        port: 8009,
+        fresh: act.contains("fresh"),
+    };
+    match reach.begin(alloc, &asked) {
         Ok(dialled) => {
             end_talk(reach, act);
             Some(dialled)

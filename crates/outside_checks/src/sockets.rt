@@ -5,7 +5,7 @@ ghost use Rattle.conn_pool.specs.Idle.{HasMember};
 use crate::reading::length_read;
 use crate::socket_pools::one_pool;
 use conn_pool::{Idle, NoTape, PooledReach, Pools};
-use jk_io::{Bytes, Dial, Door, IoError, Link, Peer, Reach, Stop, fill, write_all};
+use jk_io::{Bytes, Dial, Door, IoError, Link, Peer, Reach, Stop, TalkAsked, fill, write_all};
 use real_io::{TcpDial, TcpDoor, TcpLink};
 use std::alloc::Global;
 use std::io;
@@ -125,7 +125,14 @@ fn begins<R: Reach>(alloc: Global, reach: &mut R, port: u16) -> Result<bool, IoE
     ensures known { (R.beside reach.new).sizes ≡ (R.beside reach.old).sizes }
 {
     let host = Bytes::from_slice(alloc, b"127.0.0.1")?;
-    reach.begin(alloc, 0, 0, &host, port, false)
+    let asked = TalkAsked {
+        lb: 0,
+        member: 0,
+        host: &host,
+        port,
+        fresh: false,
+    };
+    reach.begin(alloc, &asked)
 }
 
 /// Sends a piece to the far end and back, and ends the talk, whose link is kept.

@@ -5,7 +5,7 @@ use crate::lists::one_balancer;
 use check_rows::rows::{bytes_of, number};
 use check_rows::telling::{put_bytes, put_count};
 use conn_pool::{Idle, LinkList, NoTape, PooledReach, Pools, WatchReport, judge};
-use jk_io::{Bytes, ListOf, MemDial, MemLink, MemLinkList, NoMemory, Reach};
+use jk_io::{Bytes, ListOf, MemDial, MemLink, MemLinkList, NoMemory, Reach, TalkAsked};
 use std::alloc::Global;
 use std::sync::Wait;
 
@@ -25,7 +25,14 @@ fn after_talk<R: Wait>(
     let dial = MemDial::new(dialled, ListOf::new(alloc));
     let mut reach = PooledReach::new(pools, dial, NoTape);
     let host = Bytes::new(alloc);
-    if reach.begin(alloc, 0, 0, &host, 8009, false).is_ok() {
+    let asked = TalkAsked {
+        lb: 0,
+        member: 0,
+        host: &host,
+        port: 8009,
+        fresh: false,
+    };
+    if reach.begin(alloc, &asked).is_ok() {
         reach.finish(true);
     }
     pools.take_all(alloc, 0, 0)

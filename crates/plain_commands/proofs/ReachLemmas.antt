@@ -4,6 +4,7 @@ use Rattle.std.proofs.lemmas.Grind.{reverse_onto}
 use Rattle.jk_io.specs.Memory.{MemLinkState}
 use Rattle.jk_io.specs.MemReaches.{MemReachState, GivesLink, StaysInTalk}
 use Rattle.jk_io.specs.Talks.{begun_with, talk_of}
+use Rattle.jk_io.specs.declared.reaching.TalkAsked.{TalkAsked}
 use Rattle.jk_io.specs.declared.failures.IoError.{IoError}
 use Rattle.jk_io.specs.declared.failures.IoError.TheVariants as Io
 use Rattle.jk_io.specs.declared.reaching.Begun.{Begun}
@@ -100,11 +101,11 @@ over_now first old i none =
     over_same first i.past i.before old i.over at.0 at.1
 
 -- a begin that gave a link
-pub begun : (first : List MemLinkState) (old new : MemReachState) (lb member : ℕ) (host : List ℕ) (port : ℕ) (fresh dialled : Bool)
-    → IsOverLinks first old → is_some old.book.begun ≡ false → GivesLink lb member fresh dialled old new
-    → new.book.begun ≡ Some (begun_with lb member host port fresh dialled (Some new.running.link.incoming))
+pub begun : (first : List MemLinkState) (old new : MemReachState) (asked : TalkAsked) (dialled : Bool)
+    → IsOverLinks first old → is_some old.book.begun ≡ false → GivesLink asked.lb asked.member asked.fresh dialled old new
+    → new.book.begun ≡ Some (begun_with asked dialled (Some new.running.link.incoming))
     → new.book.received ≡ [] → new.book.talks ≡ old.book.talks → new.failing ≡ old.failing → IsOverLinks first new
-begun first old new lb member host port fresh dialled i none gives is received talks failing = record {
+begun first old new asked dialled i none gives is received talks failing = record {
   quiet = failing ∙ i.quiet;
   past = i.past;
   talks = talks ∙ i.talks;
@@ -137,21 +138,21 @@ unbegun first old new i none none' (links, kept) talks failing = record {
 pub none_in : (x : ℕ) → Contains [] x → ⊥
 none_in x (k, below, is) = absurd (omega (arith, below))
 
-pub begins : (first : List MemLinkState) (old new : MemReachState) (lb member : ℕ) (host : List ℕ) (port : ℕ) (fresh : Bool) (result : Result Bool IoError)
+pub begins : (first : List MemLinkState) (old new : MemReachState) (asked : TalkAsked) (result : Result Bool IoError)
     → IsOverLinks first old → is_some old.book.begun ≡ false → is_some new.book.begun ≡ is_ok result
-    → IfOk result (λ dialled. new.book.begun ≡ Some (begun_with lb member host port fresh dialled (Some new.running.link.incoming)))
+    → IfOk result (λ dialled. new.book.begun ≡ Some (begun_with asked dialled (Some new.running.link.incoming)))
     → new.book.received ≡ []
-    → IfOk result (λ dialled. GivesLink lb member fresh dialled old new)
+    → IfOk result (λ dialled. GivesLink asked.lb asked.member asked.fresh dialled old new)
     → OnErr result ((new.links ≡ old.links) × (new.kept ≡ old.kept))
     → OnOk result (new.book.talks ≡ old.book.talks)
     → (IsErrOf result Io.NoMemory → new.book.talks ≡ old.book.talks)
     → new.failing ≡ old.failing
     → (IsErrOf result Io.Failed → Contains old.failing old.calls) → IsOverLinks first new
-begins first old new lb member host port fresh (Ok dialled) i none runs is received gives links talks wanted failing planned =
-    begun first old new lb member host port fresh dialled i none gives is received talks failing
-begins first old new lb member host port fresh (Err Io.NoMemory) i none runs is received gives links talks wanted failing planned =
+begins first old new asked (Ok dialled) i none runs is received gives links talks wanted failing planned =
+    begun first old new asked dialled i none gives is received talks failing
+begins first old new asked (Err Io.NoMemory) i none runs is received gives links talks wanted failing planned =
     unbegun first old new i none runs links (wanted refl) failing
-begins first old new lb member host port fresh (Err Io.Failed) i none runs is received gives links talks wanted failing planned =
+begins first old new asked (Err Io.Failed) i none runs is received gives links talks wanted failing planned =
     absurd (none_in old.calls (subst (λ (calls : List ℕ). Contains calls old.calls) i.quiet (planned refl)))
 
 -- the kept links after a talk

@@ -2,7 +2,7 @@
 ghost use Rattle.std.specs.Prelude.{◌≡◌, ◌+◌, ◌<◌, ◌≤◌, ◌++◌, ◌↔◌, [], ◌∷◌, true, false, None, Some, IsSome, IsTrue, IfSome, IsErr, IsErrOf, IfOk, OnOk, OnErr, is_some, is_ok, Contains, length, take, reverse, slice_index, vec_len, vec_capacity};
 ghost use Rattle.std.specs.List.{HoldsAt, remove};
 ghost use Rattle.jk_io.specs.Told.{HasCause, Rose};
-ghost use Rattle.jk_io.specs.Talks.{begun_with, failed_talk, talk_of};
+ghost use Rattle.jk_io.specs.Talks.{begun_with, failed_talk_of, talk_of};
 ghost use Rattle.jk_io.specs.Memory.{ReadIsToFail, WriteIsToFail, DialledNext, counted, next_incoming};
 ghost use Rattle.jk_io.specs.MemReaches.{IsLastOf, HasNoneOf, GivesLink, NotesBegin, StaysInTalk};
 
@@ -14,7 +14,7 @@ use crate::memory::mem_dial::{MemLinkList, empty_link, take_next};
 use crate::memory::mem_link::MemLink;
 use crate::memory::member_link::MemberLink;
 use crate::memory::talk_book::TalkBook;
-use crate::reaching::{Begun, Beside, Talk};
+use crate::reaching::{Begun, Beside, Talk, TalkAsked};
 use crate::traits::reach::Reach;
 use crate::traits::streams::{Link, Meanings, Sink, Source};
 use std::alloc::Global;
@@ -118,26 +118,15 @@ fn kept_place(kept: &[MemberLink], lb: u32, member: u32, fresh: bool) -> Option<
     kept.iter().rposition(|k| k.lb == lb && k.member == member)
 }
 
-/// What a talk is asked for with.
-#[derive(Clone, Copy)]
-struct Asked<'h> {
-    lb: u32,
-    member: u32,
-    host: &'h Bytes,
-    port: u16,
-    fresh: bool,
-}
-
 // Begins the note of a talk.
 fn note_begun(
     book: &mut TalkBook,
-    asked: Asked<'_>,
+    asked: &TalkAsked<'_>,
     dialled: bool,
     came: Option<Bytes>,
 ) -> Result<(), NoMemory>
     requires { book.old.begun ≡ None }
-    ensures ok { let a = asked.entry in
-        OnOk result (book.new ≡ record book.old { begun = Some (begun_with a.lb a.member a.host.now a.port a.fresh dialled came) }) }
+    ensures ok { OnOk result (book.new ≡ record book.old { begun = Some (begun_with asked.now dialled came) }) }
     ensures err { OnErr result (book.new ≡ book.old) }
     ensures empty { OnOk result ((book.new.sent ≡ []) × (book.new.received ≡ [])) }
 {
@@ -157,13 +146,11 @@ fn note_begun(
 fn note_kept(
     book: &mut TalkBook,
     alloc: Global,
-    asked: Asked<'_>,
+    asked: &TalkAsked<'_>,
     link: &MemLink,
 ) -> Result<(), NoMemory>
     requires { book.old.begun ≡ None }
-    ensures ok { let a = asked.entry in OnOk result (book.new ≡ record book.old {
-      begun = Some (begun_with a.lb a.member a.host.now a.port a.fresh false (Some link.now.incoming));
-    }) }
+    ensures ok { OnOk result (book.new ≡ record book.old { begun = Some (begun_with asked.now false (Some link.now.incoming)) }) }
     ensures err { OnErr result (book.new ≡ book.old) }
     ensures empty { OnOk result ((book.new.sent ≡ []) × (book.new.received ≡ [])) }
 {
@@ -175,12 +162,12 @@ fn note_kept(
 fn note_next(
     book: &mut TalkBook,
     alloc: Global,
-    asked: Asked<'_>,
+    asked: &TalkAsked<'_>,
     links: &[MemLink],
 ) -> Result<(), NoMemory>
     requires { book.old.begun ≡ None }
-    ensures ok { let a = asked.entry in OnOk result (book.new ≡ record book.old {
-      begun = Some (begun_with a.lb a.member a.host.now a.port a.fresh true (Some (next_incoming (reverse links.now))));
+    ensures ok { OnOk result (book.new ≡ record book.old {
+      begun = Some (begun_with asked.now true (Some (next_incoming (reverse links.now))));
     }) }
     ensures err { OnErr result (book.new ≡ book.old) }
     ensures empty { OnOk result ((book.new.sent ≡ []) × (book.new.received ≡ [])) }
@@ -190,11 +177,10 @@ fn note_next(
 }
 
 // Notes a talk that never began, and answers how its begin is refused: with NoMemory where it could not be noted.
-fn note_failed(book: &mut TalkBook, asked: Asked<'_>) -> IoError
+fn note_failed(book: &mut TalkBook, asked: &TalkAsked<'_>) -> IoError
     requires idle { book.old.begun ≡ None }
     requires empty { (book.old.sent ≡ []) × (book.old.received ≡ []) }
-    ensures failed { result ≡ IoError.Failed → book.new.talks
-        ≡ book.old.talks ++ failed_talk asked.entry.lb asked.entry.member asked.entry.host.now asked.entry.port asked.entry.fresh ∷ [] }
+    ensures failed { result ≡ IoError.Failed → book.new.talks ≡ book.old.talks ++ failed_talk_of asked.now ∷ [] }
     ensures wanted { result ≡ IoError.NoMemory → book.new.talks ≡ book.old.talks }
     ensures idle { (book.new.begun ≡ None) × (book.new.sent ≡ []) × (book.new.received ≡ []) }
 {
@@ -219,13 +205,12 @@ impl MemReach {
 
     // Notes a talk that never began, counts that its begin failed, and answers how it is refused. Where there is no memory
     // for the note nothing failed.
-    fn refuse(&mut self, asked: Asked<'_>) -> IoError
+    fn refuse(&mut self, asked: &TalkAsked<'_>) -> IoError
         requires idle { self.old.book.begun ≡ None }
         ensures rose { result ≡ IoError.Failed → Rose self.old.faults self.new.faults }
         ensures no_fewer { self.old.faults ≤ self.new.faults }
         ensures calm { result ≡ IoError.NoMemory → self.new.faults ≡ self.old.faults }
-        ensures failed { result ≡ IoError.Failed → self.new.book.talks
-            ≡ self.old.book.talks ++ failed_talk asked.entry.lb asked.entry.member asked.entry.host.now asked.entry.port asked.entry.fresh ∷ [] }
+        ensures failed { result ≡ IoError.Failed → self.new.book.talks ≡ self.old.book.talks ++ failed_talk_of asked.now ∷ [] }
         ensures wanted { result ≡ IoError.NoMemory → self.new.book.talks ≡ self.old.book.talks }
         ensures idle { (self.new.book.begun ≡ None) × (self.new.book.sent ≡ []) × (self.new.book.received ≡ []) }
         ensures same { self.new ≡ record self.old { book = self.new.book; faults = self.new.faults } }
@@ -241,15 +226,14 @@ impl MemReach {
     fn begin_over_kept(
         &mut self,
         alloc: Global,
-        asked: Asked<'_>,
+        asked: &TalkAsked<'_>,
         place: usize,
     ) -> Result<(), NoMemory>
         requires idle { self.old.book.begun ≡ None }
         requires within { place < length self.old.kept }
         ensures taken { OnOk result (HoldsAt (λ link. link ≡ self.new.running) self.old.kept place) }
         ensures left { OnOk result (self.new.kept ≡ remove self.old.kept place) }
-        ensures begun { let a = asked.entry in
-            OnOk result (NotesBegin a.lb a.member a.host.now a.port a.fresh false self.old self.new) }
+        ensures begun { OnOk result (NotesBegin asked.now false self.old self.new) }
         ensures err { OnErr result (self.new ≡ self.old) }
         ensures same { self.new ≡ record self.old { kept = self.new.kept; running = self.new.running; book = self.new.book } }
     {
@@ -259,14 +243,13 @@ impl MemReach {
     }
 
     // Begins a talk over the next link, or an empty one after the last, and answers that its link is new.
-    fn begin_over_next(&mut self, alloc: Global, asked: Asked<'_>) -> Result<bool, IoError>
+    fn begin_over_next(&mut self, alloc: Global, asked: &TalkAsked<'_>) -> Result<bool, IoError>
         requires idle { self.old.book.begun ≡ None }
         ensures wanted { IsErrOf result IoError.Failed → ⊥ }
         ensures new_link { IfOk result (λ dialled. dialled ≡ true) }
         ensures next { OnOk result (DialledNext self.old.links self.new.running.link self.new.links) }
-        ensures whose { OnOk result ((self.new.running.lb ≡ asked.entry.lb) × (self.new.running.member ≡ asked.entry.member)) }
-        ensures begun { let a = asked.entry in
-            OnOk result (NotesBegin a.lb a.member a.host.now a.port a.fresh true self.old self.new) }
+        ensures whose { OnOk result ((self.new.running.lb ≡ asked.now.lb) × (self.new.running.member ≡ asked.now.member)) }
+        ensures begun { OnOk result (NotesBegin asked.now true self.old self.new) }
         ensures err { OnErr result (self.new ≡ self.old) }
         ensures same { self.new ≡ record self.old { links = self.new.links; running = self.new.running; book = self.new.book } }
     {
@@ -277,13 +260,12 @@ impl MemReach {
     }
 
     // Begins a talk over the link that was kept last for its member, or over the next one, and answers whether it is new.
-    fn begin_over(&mut self, alloc: Global, asked: Asked<'_>) -> Result<bool, IoError>
+    fn begin_over(&mut self, alloc: Global, asked: &TalkAsked<'_>) -> Result<bool, IoError>
         requires idle { self.old.book.begun ≡ None }
         ensures wanted { IsErrOf result IoError.Failed → ⊥ }
-        ensures new_link { IfOk result (λ dialled. asked.entry.fresh ≡ true → dialled ≡ true) }
-        ensures given { IfOk result (λ dialled. GivesLink asked.entry.lb asked.entry.member asked.entry.fresh dialled self.old self.new) }
-        ensures begun { let a = asked.entry in
-            IfOk result (λ dialled. NotesBegin a.lb a.member a.host.now a.port a.fresh dialled self.old self.new) }
+        ensures new_link { IfOk result (λ dialled. asked.now.fresh ≡ true → dialled ≡ true) }
+        ensures given { IfOk result (λ dialled. GivesLink asked.now.lb asked.now.member asked.now.fresh dialled self.old self.new) }
+        ensures begun { IfOk result (λ dialled. NotesBegin asked.now dialled self.old self.new) }
         ensures err { OnErr result (self.new ≡ self.old) }
         ensures same { (self.new.sizes ≡ self.old.sizes) × (self.new.failing ≡ self.old.failing)
             × (self.new.calls ≡ self.old.calls) × (self.new.faults ≡ self.old.faults) }
@@ -317,10 +299,15 @@ fn run_kept(running: &mut MemberLink, kept: &mut Vec<MemberLink>, place: usize)
 }
 
 // A talk runs over the next link, or over an empty one after the last; the links stand in reverse.
-fn run_next(running: &mut MemberLink, alloc: Global, asked: Asked<'_>, links: &mut Vec<MemLink>)
+fn run_next(
+    running: &mut MemberLink,
+    alloc: Global,
+    asked: &TalkAsked<'_>,
+    links: &mut Vec<MemLink>,
+)
     ensures next { DialledNext (reverse links.old.items) running.new.link (reverse links.new.items) }
     ensures came { running.new.link.incoming ≡ next_incoming (reverse links.old.items) }
-    ensures whose { (running.new.lb ≡ asked.entry.lb) × (running.new.member ≡ asked.entry.member) }
+    ensures whose { (running.new.lb ≡ asked.now.lb) × (running.new.member ≡ asked.now.member) }
 {
     *running = MemberLink {
         lb: asked.lb,
@@ -497,32 +484,24 @@ impl Link for MemReach {
 impl Reach for MemReach {
     ghost use Rattle.std.specs.Prelude.{refl};
 
-    fn begin(
-        &mut self,
-        alloc: Global,
-        lb: u32,
-        member: u32,
-        host: &Bytes,
-        port: u16,
-        fresh: bool,
-    ) -> Result<bool, IoError>
+    fn begin(&mut self, alloc: Global, asked: &TalkAsked<'_>) -> Result<bool, IoError>
         requires idle { is_some self.old.book.begun ≡ false }
-        requires known { member < slice_index self.old.sizes lb }
+        requires known { asked.now.member < slice_index self.old.sizes asked.now.lb }
 
         ensures runs { is_some self.new.book.begun ≡ is_ok result }
-        ensures new_link { IfOk result (λ dialled. fresh ≡ true → dialled ≡ true) }
+        ensures new_link { IfOk result (λ dialled. asked.now.fresh ≡ true → dialled ≡ true) }
         ensures begun { IfOk result (λ dialled. self.new.book.begun
-            ≡ Some (begun_with lb member host.now port fresh dialled (Some self.new.running.link.incoming))) }
+            ≡ Some (begun_with asked.now dialled (Some self.new.running.link.incoming))) }
         ensures nothing_yet { (self.new.book.sent ≡ []) × (self.new.book.received ≡ []) }
 
         // The link that the talk gets.
-        ensures given { IfOk result (λ dialled. GivesLink lb member fresh dialled self.old self.new) }
+        ensures given { IfOk result (λ dialled. GivesLink asked.now.lb asked.now.member asked.now.fresh dialled self.old self.new) }
         ensures not_given { OnErr result ((self.new.links ≡ self.old.links) × (self.new.kept ≡ self.old.kept)) }
 
         // A begin that failed counts as an ended talk; one that wanted memory doesn't.
         ensures ok { OnOk result (self.new.book.talks ≡ self.old.book.talks) }
         ensures failed { IsErrOf result IoError.Failed
-            → self.new.book.talks ≡ self.old.book.talks ++ failed_talk lb member host.now port fresh ∷ [] }
+            → self.new.book.talks ≡ self.old.book.talks ++ failed_talk_of asked.now ∷ [] }
         ensures wanted { IsErrOf result IoError.NoMemory → self.new.book.talks ≡ self.old.book.talks }
         ensures same { (self.new.sizes ≡ self.old.sizes) × (self.new.failing ≡ self.old.failing) }
 
@@ -533,13 +512,6 @@ impl Reach for MemReach {
         ensures cause { HasCause self.old.faults self.new.faults result }
         ensures steady { (Contains self.old.failing self.old.calls → ⊥) → self.new.faults ≡ self.old.faults }
     {
-        let asked = Asked {
-            lb,
-            member,
-            host,
-            port,
-            fresh,
-        };
         if self.begin_fails() {
             return Err(self.refuse(asked));
         }

@@ -1,7 +1,6 @@
 //! A reach: talks with the members of balancers, one after another, each over a link that is dialled or kept.
-use crate::byte_list::Bytes;
 use crate::failures::{IoError, NoMemory};
-use crate::reaching::Beside;
+use crate::reaching::{Beside, TalkAsked};
 use crate::traits::streams::{Link, Meanings};
 use std::alloc::Global;
 
@@ -10,35 +9,27 @@ pub trait Reach: Link + Meanings<Beside = Beside> {
     ghost use Rattle.std.specs.Prelude.{◌≡◌, ◌<◌, [], ◌∷◌, true, false, Option, None, IfSome, IsOk, IfOk, OnOk, IsErrOf, is_ok, slice_index};
     ghost use Rattle.jk_io.specs.Looks.{LookTimes, LooksIfDue};
     ghost use Rattle.jk_io.specs.Told.{appended, IsEmpty, HasCause};
-    ghost use Rattle.jk_io.specs.Talks.{begun_with, failed_talk, IsNoteOf};
+    ghost use Rattle.jk_io.specs.Talks.{begun_with, failed_talk_of, IsNoteOf};
     ghost use Rattle.jk_io.specs.declared.reaching.Talk.{Talk};
 
     // when it looks through its idle links; None where it never does, or doesn't tell it
     ghost looks: { Self → Option LookTimes } = { λ _. None };
 
     /// Begins a talk with a member, and answers whether its link is new.
-    fn begin(
-        &mut self,
-        alloc: Global,
-        lb: u32,
-        member: u32,
-        host: &Bytes,
-        port: u16,
-        fresh: bool,
-    ) -> Result<bool, IoError>
+    fn begin(&mut self, alloc: Global, asked: &TalkAsked<'_>) -> Result<bool, IoError>
         requires idle { (Self.beside self.old).runs ≡ false }
-        requires known { member < slice_index (Self.beside self.old).sizes lb }
+        requires known { asked.now.member < slice_index (Self.beside self.old).sizes asked.now.lb }
 
         ensures runs { (Self.beside self.new).runs ≡ is_ok result }
-        ensures new_link { IfOk result (λ dialled. fresh ≡ true → dialled ≡ true) }
+        ensures new_link { IfOk result (λ dialled. asked.now.fresh ≡ true → dialled ≡ true) }
         ensures begun { IfOk result (λ dialled. IfSome (Self.beside self.new).begun
-            (λ b. b ≡ begun_with lb member host.now port fresh dialled (Self.incoming self.new))) }
+            (λ b. b ≡ begun_with asked.now dialled (Self.incoming self.new))) }
         ensures nothing_yet { IsEmpty (Self.sent self.new) × IsEmpty (Self.received self.new) }
 
         // A begin that failed counts as an ended talk; one that wanted memory doesn't.
         ensures ok { OnOk result ((Self.beside self.new).talks ≡ (Self.beside self.old).talks) }
         ensures failed { IsErrOf result IoError.Failed
-            → (Self.beside self.new).talks ≡ appended (Self.beside self.old).talks (failed_talk lb member host.now port fresh ∷ []) }
+            → (Self.beside self.new).talks ≡ appended (Self.beside self.old).talks (failed_talk_of asked.now ∷ []) }
         ensures wanted { IsErrOf result IoError.NoMemory → (Self.beside self.new).talks ≡ (Self.beside self.old).talks }
         ensures same_sizes { (Self.beside self.new).sizes ≡ (Self.beside self.old).sizes }
         ensures cause { HasCause (Self.faults self.old) (Self.faults self.new) result }

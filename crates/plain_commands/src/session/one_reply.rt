@@ -5,7 +5,7 @@ ghost use Rattle.plain_commands.specs.DryReaches.{IsOverLinks};
 
 use jk_io::{
     Beside, Bytes, IoError, Link, ListOf, Meanings, MemLink, MemReach, NoMemory, NumberList, Reach,
-    Sink, Source, Talk,
+    Sink, Source, Talk, TalkAsked,
 };
 use std::alloc::Global;
 use std::marker::{Brand, Model, PhantomData};
@@ -131,16 +131,8 @@ impl<N: ReplyName> Link for OneReply<N> {}
 impl<N: ReplyName> Reach for OneReply<N> {
     ghost use Rattle.std.specs.Prelude.{refl};
 
-    fn begin(
-        &mut self,
-        alloc: Global,
-        lb: u32,
-        member: u32,
-        host: &Bytes,
-        port: u16,
-        fresh: bool,
-    ) -> Result<bool, IoError> {
-        self.reach.begin(alloc, lb, member, host, port, fresh)
+    fn begin(&mut self, alloc: Global, asked: &TalkAsked<'_>) -> Result<bool, IoError> {
+        self.reach.begin(alloc, asked)
     }
 
     fn finish(&mut self, keep: bool) {
