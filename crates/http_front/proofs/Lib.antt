@@ -11,6 +11,7 @@ pub mod MakesLemmas
 pub mod MomentLemmas
 pub mod PathLemmas
 pub mod QuietLemmas
+pub mod ReadLemmas
 pub mod RefusedLemmas
 pub mod SpelledLemmas
 pub mod StepLemmas

@@ -14,6 +14,7 @@ pub mod Lone
 pub mod Makes
 pub mod Path
 pub mod Places
+pub mod Reads
 pub mod Refusal
 pub mod Request
 pub mod Search

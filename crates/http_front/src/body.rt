@@ -1,10 +1,10 @@
 //! `BodyIn`: a client's body, taken in pieces.
-ghost use Rattle.std.specs.Prelude.{◌≡◌, ◌<◌, ◌≤◌, None, Some, IfOk, IfErr, OnOk, IsErrOf, IsTrue};
+ghost use Rattle.std.specs.Prelude.{◌≡◌, ◌<◌, None, Some, IfOk, IfErr, OnOk, IsTrue};
 ghost use Rattle.jk_io.specs.Moments.{moment};
-ghost use Rattle.jk_io.specs.Told.{Rose};
 ghost use Rattle.http_front.specs.Unread.{unread};
-ghost use Rattle.http_front.specs.Faults.{IsNoFailure, IsCalmBody};
+ghost use Rattle.http_front.specs.Faults.{IsCalmBody};
 ghost use Rattle.http_front.specs.Places.{start_of};
+ghost use Rattle.http_front.specs.Reads.{ReadsClient};
 ghost use Rattle.http_front.specs.State.{place_of, taken_of, most_of, failed_of};
 ghost use Rattle.http_front.specs.Takes.{body_at, decides, TakesPiece, PassesRest, MeetsFault};
 ghost use Rattle.http_front.specs.Walks.{Walks, Fails};
@@ -153,11 +153,8 @@ fn next_piece<C: Link>(
         (unread inbox.new (C.incoming client.new)) start.place piece.place piece.bytes) }
     ensures err { IfErr result (Fails start.most start.taken n (unread inbox.old (C.incoming client.old))
         (unread inbox.new (C.incoming client.new)) start.place) }
-    ensures fault { IsErrOf result BodyFault.Fault → Rose (C.faults client.old) (C.faults client.new) }
-    ensures steady { IsCalmBody result → C.faults client.new ≡ C.faults client.old }
+    ensures reads { ReadsClient C.Meanings BodyFault.Fault (IsCalmBody result) client.old client.new result }
     ensures unasked { IsTrue (settles (Next n) start.place start.most start.taken inbox.old) → client.new ≡ client.old }
-    ensures same { (C.sent client.new ≡ C.sent client.old) × (C.beside client.new ≡ C.beside client.old) }
-    ensures no_fewer { C.faults client.old ≤ C.faults client.new }
 {
     let mut bytes = match vec![in alloc; 0; n] {
         Ok(bytes) => bytes,

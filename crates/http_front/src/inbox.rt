@@ -1,7 +1,8 @@
 //! `Inbox`: the client's bytes that were read and not yet used.
-ghost use Rattle.std.specs.Prelude.{◌≡◌, ◌==◌, ◌+◌, ◌-◌, ◌≤◌, ◌<◌, ℕ, List, [], ◌++◌, length, drop, take, IsOk, IfOk, OnErr};
+ghost use Rattle.std.specs.Prelude.{◌≡◌, ◌==◌, ◌+◌, ◌-◌, ◌≤◌, ◌<◌, ℕ, List, [], ◌++◌, length, drop, take, IfOk, OnErr};
 ghost use Rattle.std.specs.List.{between};
-ghost use Rattle.jk_io.specs.Told.{prepended, IsEmpty, HasCause};
+ghost use Rattle.jk_io.specs.Told.{prepended, IsEmpty};
+ghost use Rattle.http_front.specs.Reads.{ReadsOnce};
 ghost use Rattle.http_front.specs.Unread.{unread};
 
 use jk_io::{IoError, NoMemory, Source};
@@ -90,9 +91,7 @@ impl Inbox {
         ensures end { IfOk result (λ n. n ≡ 0 → IsEmpty (C.incoming client.new)) }
         ensures unread { unread self.new (C.incoming client.new) ≡ unread self.old (C.incoming client.old) }
         ensures err { OnErr result (self.new ≡ self.old) }
-        ensures same { (C.sent client.new ≡ C.sent client.old) × (C.beside client.new ≡ C.beside client.old) }
-        ensures cause { HasCause (C.faults client.old) (C.faults client.new) result }
-        ensures steady { IsOk result → C.faults client.new ≡ C.faults client.old }
+        ensures reads { ReadsOnce C.Meanings client.old client.new result }
     {
         let held = self.end - self.start;
         self.start = make_room(&mut self.buffer, self.start, self.end);
@@ -131,9 +130,7 @@ fn read_behind<C: Source>(client: &mut C, buffer: &mut [u8], end: usize) -> Resu
     ensures within { IfOk result (λ n. end + n ≤ length buffer.old) }
     ensures end { IfOk result (λ n. n ≡ 0 → IsEmpty (C.incoming client.new)) }
     ensures err { OnErr result ((take end buffer.new ≡ take end buffer.old) × (C.incoming client.new ≡ C.incoming client.old)) }
-    ensures same { (C.sent client.new ≡ C.sent client.old) × (C.beside client.new ≡ C.beside client.old) }
-    ensures cause { HasCause (C.faults client.old) (C.faults client.new) result }
-    ensures steady { IsOk result → C.faults client.new ≡ C.faults client.old }
+    ensures reads { ReadsOnce C.Meanings client.old client.new result }
 {
     client.read(&mut buffer[end..])
 }

@@ -2,6 +2,7 @@
 ghost use Rattle.std.specs.Prelude.{◌≡◌, ◌≤◌, ◌<◌, ◌++◌, ℕ, List, Option, Ok, length, IfOk, IfErr, OnErr, IsErrOf};
 ghost use Rattle.jk_io.specs.Told.{IsEmpty, Rose};
 ghost use Rattle.http_front.specs.Answer.{UsesHead, UsesEnd, IfHead, OnEnd, IfRefused, IsCalmHead};
+ghost use Rattle.http_front.specs.Reads.{ReadsClient};
 ghost use Rattle.http_front.specs.Refusal.{status_of};
 ghost use Rattle.http_front.specs.Request.{Refuses, EndsWithin, IsDecided};
 ghost use Rattle.http_front.specs.Search.{IsSearched, IsPartOfHead, IsLook, IsStop, IsFoundHead, HasEnded};
@@ -56,12 +57,9 @@ fn read_on<C: Link>(inbox: &mut Inbox, client: &mut C) -> Result<usize, HeadErro
     ensures end { IfOk result (λ n. n ≡ 0 → IsEmpty (C.incoming client.new)) }
     ensures stopped { IfErr result (IsStop inbox.old) }
     ensures err { OnErr result (inbox.new ≡ inbox.old) }
-    ensures fault { IsErrOf result HeadError.Fault → Rose (C.faults client.old) (C.faults client.new) }
-    ensures steady { IsCalmHead result → C.faults client.new ≡ C.faults client.old }
     ensures unasked { MAX_HEAD_BYTES ≤ length inbox.old → client.new ≡ client.old }
     ensures unread { unread inbox.new (C.incoming client.new) ≡ unread inbox.old (C.incoming client.old) }
-    ensures same { (C.sent client.new ≡ C.sent client.old) × (C.beside client.new ≡ C.beside client.old) }
-    ensures no_fewer { C.faults client.old ≤ C.faults client.new }
+    ensures reads { ReadsClient C.Meanings HeadError.Fault (IsCalmHead result) client.old client.new result }
 {
     if inbox.len() == MAX_HEAD_BYTES {
         return Err(refused(Form::TooBig));
@@ -91,13 +89,10 @@ fn end_at(bytes: &[u8], blank: usize) -> Result<Found, HeadError>
 fn find_head<C: Link>(inbox: &mut Inbox, client: &mut C) -> Result<Found, HeadError>
     ensures found { IsFoundHead inbox.new result }
     ensures ended { HasEnded result → IsEmpty (C.incoming client.new) }
-    ensures fault { IsErrOf result HeadError.Fault → Rose (C.faults client.old) (C.faults client.new) }
     ensures awaited { IsErrOf result HeadError.Fault → IsDecided inbox.new → ⊥ }
-    ensures steady { IsCalmHead result → C.faults client.new ≡ C.faults client.old }
     ensures unasked { IsDecided inbox.old → client.new ≡ client.old }
     ensures unread { unread inbox.new (C.incoming client.new) ≡ unread inbox.old (C.incoming client.old) }
-    ensures same { (C.sent client.new ≡ C.sent client.old) × (C.beside client.new ≡ C.beside client.old) }
-    ensures no_fewer { C.faults client.old ≤ C.faults client.new }
+    ensures reads { ReadsClient C.Meanings HeadError.Fault (IsCalmHead result) client.old client.new result }
 {
     let mut blank = 0;
     let mut searched = 0;

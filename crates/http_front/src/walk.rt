@@ -1,11 +1,12 @@
 //! The walk over a client's bytes: framing is stepped over, data is copied or dropped.
-ghost use Rattle.std.specs.Prelude.{◌≡◌, ◌≢◌, ◌<◌, ◌≤◌, ◌+◌, ◌↔◌, [], length, take, min, false, IfOk, IfErr, OnOk, OnErr, IsOk, IsErrOf, IsTrue, Err, Some};
-ghost use Rattle.jk_io.specs.Told.{prepended, IsEmpty, Rose, HasCause};
+ghost use Rattle.std.specs.Prelude.{◌≡◌, ◌<◌, ◌≤◌, ◌+◌, ◌↔◌, [], length, take, min, false, IfOk, IfErr, OnOk, OnErr, IsTrue, Some};
+ghost use Rattle.jk_io.specs.Told.{prepended, IsEmpty};
 ghost use Rattle.http_front.specs.Unread.{unread};
 ghost use Rattle.http_front.specs.Body.{Uses, is_over, place_behind, data_from};
 ghost use Rattle.http_front.specs.Places.{data_left};
 ghost use Rattle.http_front.specs.Falls.{framing_left, exact_left};
 ghost use Rattle.http_front.specs.Faults.{IsCalmBody};
+ghost use Rattle.http_front.specs.Reads.{ReadsClient, ReadsOnce, StepsOn};
 ghost use Rattle.http_front.specs.Walks.{Walks, Fails, Passes, Breaks, IsDropped, IsPut, is_reached};
 ghost use Rattle.http_front.specs.Wants.{Next, Rest, settles};
 
@@ -46,12 +47,9 @@ pub fn fill_piece<C: Link>(
         (unread inbox.new (C.incoming client.new)) start f.place (take f.count piece.new)) }
     ensures err { IfErr result (Fails most taken (length piece.new) (unread inbox.old (C.incoming client.old))
         (unread inbox.new (C.incoming client.new)) start) }
-    ensures fault { IsErrOf result BodyFault.Fault → Rose (C.faults client.old) (C.faults client.new) }
-    ensures steady { IsCalmBody result → C.faults client.new ≡ C.faults client.old }
+    ensures reads { ReadsClient C.Meanings BodyFault.Fault (IsCalmBody result) client.old client.new result }
     ensures unasked { IsTrue (settles (Next (length piece.old)) start most taken inbox.old)
         → client.new ≡ client.old }
-    ensures same { (C.sent client.new ≡ C.sent client.old) × (C.beside client.new ≡ C.beside client.old) }
-    ensures no_fewer { C.faults client.old ≤ C.faults client.new }
 {
     let mut place = start;
     let mut count = 0;
@@ -91,11 +89,8 @@ pub fn pass_body<C: Link>(
         (unread inbox.new (C.incoming client.new)) start p.place p.taken) }
     ensures err { IfErr result (Breaks most taken (unread inbox.old (C.incoming client.old))
         (unread inbox.new (C.incoming client.new)) start) }
-    ensures fault { IsErrOf result BodyFault.Fault → Rose (C.faults client.old) (C.faults client.new) }
-    ensures steady { IsCalmBody result → C.faults client.new ≡ C.faults client.old }
+    ensures reads { ReadsClient C.Meanings BodyFault.Fault (IsCalmBody result) client.old client.new result }
     ensures unasked { IsTrue (settles Rest start most taken inbox.old) → client.new ≡ client.old }
-    ensures same { (C.sent client.new ≡ C.sent client.old) × (C.beside client.new ≡ C.beside client.old) }
-    ensures no_fewer { C.faults client.old ≤ C.faults client.new }
 {
     let mut place = start;
     let mut sum = taken;
@@ -170,13 +165,7 @@ fn await_byte<C: Link>(inbox: &mut Inbox, client: &mut C) -> Result<(), BodyFaul
     ensures ok { OnOk result (0 < length inbox.new) }
     ensures inside { 0 < length inbox.old → inbox.new ≡ inbox.old }
     ensures unread { unread inbox.new (C.incoming client.new) ≡ unread inbox.old (C.incoming client.old) }
-    ensures end { IsErrOf result BodyFault.Truncated → IsEmpty (unread inbox.new (C.incoming client.new)) }
-    ensures kind { (result ≢ Err BodyFault.BadChunk) × (result ≢ Err BodyFault.TooLong) }
-    ensures fault { IsErrOf result BodyFault.Fault → Rose (C.faults client.old) (C.faults client.new) }
-    ensures steady { IsCalmBody result → C.faults client.new ≡ C.faults client.old }
-    ensures unasked { 0 < length inbox.old → client.new ≡ client.old }
-    ensures same { (C.sent client.new ≡ C.sent client.old) × (C.beside client.new ≡ C.beside client.old) }
-    ensures no_fewer { C.faults client.old ≤ C.faults client.new }
+    ensures steps { StepsOn C.Meanings inbox.old inbox.new client.old client.new result }
 {
     if !inbox.is_empty() {
         return Ok(());
@@ -202,13 +191,7 @@ fn pass_framing<C: Link>(
     ensures falls { IfOk result (λ next. framing_left next < framing_left place) }
     ensures chunked { IfOk result (λ next. exact_left next ≡ 0) }
     ensures err { OnErr result (unread inbox.new (C.incoming client.new) ≡ unread inbox.old (C.incoming client.old)) }
-    ensures end { IsErrOf result BodyFault.Truncated → IsEmpty (unread inbox.new (C.incoming client.new)) }
-    ensures kind { (result ≢ Err BodyFault.BadChunk) × (result ≢ Err BodyFault.TooLong) }
-    ensures fault { IsErrOf result BodyFault.Fault → Rose (C.faults client.old) (C.faults client.new) }
-    ensures steady { IsCalmBody result → C.faults client.new ≡ C.faults client.old }
-    ensures unasked { 0 < length inbox.old → client.new ≡ client.old }
-    ensures same { (C.sent client.new ≡ C.sent client.old) × (C.beside client.new ≡ C.beside client.old) }
-    ensures no_fewer { C.faults client.old ≤ C.faults client.new }
+    ensures steps { StepsOn C.Meanings inbox.old inbox.new client.old client.new result }
 {
     await_byte(inbox, client)?;
     let (next, used) = step_framing(place, inbox.as_slice());
@@ -222,13 +205,7 @@ fn drop_data<C: Link>(left: u64, inbox: &mut Inbox, client: &mut C) -> Result<u6
     ensures count { IfOk result (λ n. (0 < n) × (n ≤ left)) }
     ensures gone { IfOk result (λ n. IsDropped n inbox.old inbox.new (C.incoming client.old) (C.incoming client.new)) }
     ensures err { OnErr result (unread inbox.new (C.incoming client.new) ≡ unread inbox.old (C.incoming client.old)) }
-    ensures end { IsErrOf result BodyFault.Truncated → IsEmpty (unread inbox.new (C.incoming client.new)) }
-    ensures kind { (result ≢ Err BodyFault.BadChunk) × (result ≢ Err BodyFault.TooLong) }
-    ensures fault { IsErrOf result BodyFault.Fault → Rose (C.faults client.old) (C.faults client.new) }
-    ensures steady { IsCalmBody result → C.faults client.new ≡ C.faults client.old }
-    ensures unasked { 0 < length inbox.old → client.new ≡ client.old }
-    ensures same { (C.sent client.new ≡ C.sent client.old) × (C.beside client.new ≡ C.beside client.old) }
-    ensures no_fewer { C.faults client.old ≤ C.faults client.new }
+    ensures steps { StepsOn C.Meanings inbox.old inbox.new client.old client.new result }
 {
     await_byte(inbox, client)?;
     let count = count_of(left, inbox.len());
@@ -249,13 +226,7 @@ fn take_data<C: Link>(
     ensures within { IfOk result (λ n. (0 < n) × (n ≤ left) × (count + n ≤ length piece.new)) }
     ensures put { IfOk result (λ n. IsPut n count piece.old piece.new inbox.old inbox.new (C.incoming client.old) (C.incoming client.new)) }
     ensures err { OnErr result (unread inbox.new (C.incoming client.new) ≡ unread inbox.old (C.incoming client.old)) }
-    ensures end { IsErrOf result BodyFault.Truncated → IsEmpty (unread inbox.new (C.incoming client.new)) }
-    ensures kind { (result ≢ Err BodyFault.BadChunk) × (result ≢ Err BodyFault.TooLong) }
-    ensures fault { IsErrOf result BodyFault.Fault → Rose (C.faults client.old) (C.faults client.new) }
-    ensures steady { IsCalmBody result → C.faults client.new ≡ C.faults client.old }
-    ensures unasked { 0 < length inbox.old → client.new ≡ client.old }
-    ensures same { (C.sent client.new ≡ C.sent client.old) × (C.beside client.new ≡ C.beside client.old) }
-    ensures no_fewer { C.faults client.old ≤ C.faults client.new }
+    ensures steps { StepsOn C.Meanings inbox.old inbox.new client.old client.new result }
 {
     let want = count_of(left, piece.len() - count);
     match next_data(inbox, client, &mut piece[count..count + want]) {
@@ -275,9 +246,7 @@ fn next_data<C: Link>(inbox: &mut Inbox, client: &mut C, buf: &mut [u8]) -> Resu
     ensures unasked { 0 < length inbox.old → client.new ≡ client.old }
     ensures end { IfOk result (λ n. n ≡ 0 → IsEmpty (unread inbox.new (C.incoming client.new))) }
     ensures err { OnErr result (unread inbox.new (C.incoming client.new) ≡ unread inbox.old (C.incoming client.old)) }
-    ensures same { (C.sent client.new ≡ C.sent client.old) × (C.beside client.new ≡ C.beside client.old) }
-    ensures cause { HasCause (C.faults client.old) (C.faults client.new) result }
-    ensures steady { IsOk result → C.faults client.new ≡ C.faults client.old }
+    ensures reads { ReadsOnce C.Meanings client.old client.new result }
 {
     if inbox.is_empty() {
         return client.read(buf);

@@ -1,12 +1,13 @@
 -- The bytes end, or no more are read. A read is made only where the bytes in hand don't decide.
-use Rattle.std.proofs.Common.{◌≡◌, ◌<◌, ℕ, List, Err, length, refl, sym, ap, subst, ◌∙◌, arith}
+use Rattle.std.proofs.Common.{◌≡◌, ◌<◌, ℕ, List, Err, length, sym, ap, subst, ◌∙◌, arith}
 use Rattle.jk_io.specs.Told.{Rose}
 use Rattle.http_front.specs.Search.{IsFoundHead, IsPartOfHead, IsSearched, IsStop}
 use Rattle.http_front.specs.declared.answers.HeadError.{HeadError}
 use Rattle.http_front.specs.declared.answers.HeadError.TheVariants as error
 use Rattle.http_front.proofs.CutLemmas.{seen-more}
-use Rattle.http_front.proofs.InboxLemmas.{kept-count, nothing-came, risen-count}
+use Rattle.http_front.proofs.InboxLemmas.{nothing-came, risen-count}
 use Rattle.http_front.proofs.MakesLemmas.{part-awaits, part-full, stop-found}
+use Rattle.http_front.proofs.ReadLemmas.{none-failed}
 use Rattle.http_front.proofs.reading.find_head.Goals as goal
 
 pub end_at-requires-clause-part : goal.end_at-requires-clause-part
@@ -30,14 +31,8 @@ returns-in-Ok-eq0-clause-found g c =
 pub returns-in-Ok-eq0-clause-ended : goal.returns-in-Ok-eq0-clause-ended
 returns-in-Ok-eq0-clause-ended g c = λ ended. c.in-Ok-eq0.ensures.end c.in-Ok-eq0.field-0-test
 
-pub returns-in-Ok-eq0-clause-fault : goal.returns-in-Ok-eq0-clause-fault
-returns-in-Ok-eq0-clause-fault g c = λ is. absurd (c.end_at.ensures.no_fault is)
-
 pub returns-in-Ok-eq0-clause-awaited : goal.returns-in-Ok-eq0-clause-awaited
 returns-in-Ok-eq0-clause-awaited g c = λ is decided. c.end_at.ensures.no_fault is
-
-pub returns-in-Ok-eq0-clause-steady : goal.returns-in-Ok-eq0-clause-steady
-returns-in-Ok-eq0-clause-steady g c = λ calm. c.in-Ok-eq0.ensures.steady tt ∙ c.loop-blank.invariant.steady
 
 pub returns-in-Whole-clause-unasked : goal.returns-in-Whole-clause-unasked
 returns-in-Whole-clause-unasked g c = λ decided. (c.loop-blank.invariant.untouched decided).1
@@ -50,14 +45,6 @@ returns-in-Ok-eq0-clause-unasked g c = λ decided.
 pub returns-in-Err-clause-found : goal.returns-in-Err-clause-found
 returns-in-Err-clause-found g c =
     stop-found c.loop-blank.inbox _ c.read_on.new.inbox _ _ c.in-Err.error c.in-Part.ensures c.as_slice.ensures.value c.in-Err.ensures.stopped c.in-Err.ensures.err
-
-pub returns-in-Err-clause-fault : goal.returns-in-Err-clause-fault
-returns-in-Err-clause-fault g c = λ is.
-    let why : c.in-Err.error ≡ error.Fault = cc in
-    subst (λ (k : ℕ). Rose k (g.C.Meanings.faults c.read_on.new.client)) c.loop-blank.invariant.steady (c.in-Err.ensures.fault (ap Err why))
-
-pub returns-in-Err-clause-steady : goal.returns-in-Err-clause-steady
-returns-in-Err-clause-steady g c = λ calm. c.in-Err.ensures.steady calm ∙ c.loop-blank.invariant.steady
 
 pub returns-in-Err-clause-unasked : goal.returns-in-Err-clause-unasked
 returns-in-Err-clause-unasked g c = λ decided.
@@ -81,9 +68,9 @@ loop-blank-preserved g c =
     record {
       seen = subst Q (sym e.more.2) seen;
       unread = e.unread ∙ I.unread;
-      sent = e.same.0 ∙ I.sent;
-      beside = e.same.1 ∙ I.beside;
-      steady = e.steady tt ∙ I.steady;
+      sent = e.reads.same.0 ∙ I.sent;
+      beside = e.reads.same.1 ∙ I.beside;
+      steady = e.reads.steady tt ∙ I.steady;
       untouched = λ decided. absurd (part-awaits c.loop-blank.inbox _ c.args.inbox.now _ _ part c.as_slice.ensures.value (I.untouched decided).0 e.room decided);
     }
 
@@ -92,38 +79,36 @@ loop-blank-preserved g c =
 pub returns-in-Whole-clause-ended : goal.returns-in-Whole-clause-ended
 returns-in-Whole-clause-ended g c = λ ended. absurd ended
 
-pub returns-in-Whole-clause-fault : goal.returns-in-Whole-clause-fault
-returns-in-Whole-clause-fault g c = λ is. absurd cc
-
 pub returns-in-Whole-clause-awaited : goal.returns-in-Whole-clause-awaited
 returns-in-Whole-clause-awaited g c = λ is decided. cc
-
-pub returns-in-Whole-clause-steady : goal.returns-in-Whole-clause-steady
-returns-in-Whole-clause-steady g c = λ calm. c.loop-blank.invariant.steady
 
 pub returns-in-Whole-clause-unread : goal.returns-in-Whole-clause-unread
 returns-in-Whole-clause-unread g c = c.loop-blank.invariant.unread
 
-pub returns-in-Whole-clause-same : goal.returns-in-Whole-clause-same
-returns-in-Whole-clause-same g c = (c.loop-blank.invariant.sent, c.loop-blank.invariant.beside)
-
-pub returns-in-Whole-clause-no_fewer : goal.returns-in-Whole-clause-no_fewer
-returns-in-Whole-clause-no_fewer g c = kept-count _ _ c.loop-blank.invariant.steady
-
 pub returns-in-Ok-eq0-clause-unread : goal.returns-in-Ok-eq0-clause-unread
 returns-in-Ok-eq0-clause-unread g c = c.read_on.ensures.unread ∙ c.loop-blank.invariant.unread
-
-pub returns-in-Ok-eq0-clause-same : goal.returns-in-Ok-eq0-clause-same
-returns-in-Ok-eq0-clause-same g c = (c.read_on.ensures.same.0 ∙ c.loop-blank.invariant.sent, c.read_on.ensures.same.1 ∙ c.loop-blank.invariant.beside)
-
-pub returns-in-Ok-eq0-clause-no_fewer : goal.returns-in-Ok-eq0-clause-no_fewer
-returns-in-Ok-eq0-clause-no_fewer g c = risen-count _ _ _ c.loop-blank.invariant.steady c.read_on.ensures.no_fewer
 
 pub returns-in-Err-clause-unread : goal.returns-in-Err-clause-unread
 returns-in-Err-clause-unread g c = c.read_on.ensures.unread ∙ c.loop-blank.invariant.unread
 
-pub returns-in-Err-clause-same : goal.returns-in-Err-clause-same
-returns-in-Err-clause-same g c = (c.read_on.ensures.same.0 ∙ c.loop-blank.invariant.sent, c.read_on.ensures.same.1 ∙ c.loop-blank.invariant.beside)
+pub returns-in-Whole-clause-reads : goal.returns-in-Whole-clause-reads
+returns-in-Whole-clause-reads g c =
+    let I = c.loop-blank.invariant in
+    none-failed g.C.Meanings error.Fault _ _ _ _ (λ is. cc) I.sent I.beside I.steady
 
-pub returns-in-Err-clause-no_fewer : goal.returns-in-Err-clause-no_fewer
-returns-in-Err-clause-no_fewer g c = risen-count _ _ _ c.loop-blank.invariant.steady c.read_on.ensures.no_fewer
+pub returns-in-Ok-eq0-clause-reads : goal.returns-in-Ok-eq0-clause-reads
+returns-in-Ok-eq0-clause-reads g c =
+    let I = c.loop-blank.invariant in
+    let r = c.in-Ok-eq0.ensures.reads in
+    none-failed g.C.Meanings error.Fault _ _ _ c.end_at.result c.end_at.ensures.no_fault (r.same.0 ∙ I.sent) (r.same.1 ∙ I.beside) (r.steady tt ∙ I.steady)
+
+pub returns-in-Err-clause-reads : goal.returns-in-Err-clause-reads
+returns-in-Err-clause-reads g c =
+    let I = c.loop-blank.invariant in
+    let r = c.in-Err.ensures.reads in
+    record {
+      same = (r.same.0 ∙ I.sent, r.same.1 ∙ I.beside);
+      fault = λ is. (let why : c.in-Err.error ≡ error.Fault = cc in subst (λ (k : ℕ). Rose k (g.C.Meanings.faults c.read_on.new.client)) I.steady (r.fault (ap Err why)));
+      steady = λ calm. r.steady calm ∙ I.steady;
+      no_fewer = risen-count _ _ _ I.steady r.no_fewer;
+    }

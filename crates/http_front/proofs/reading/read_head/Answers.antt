@@ -33,4 +33,4 @@ pub returns-clause-awaited : goal.returns-clause-awaited
 returns-clause-awaited g c = λ is decided. c.take_found.ensures.no_fault is
 
 pub returns-clause-steady : goal.returns-clause-steady
-returns-clause-steady g c = λ calm. c.in_ok-found.ensures.steady tt
+returns-clause-steady g c = λ calm. c.in_ok-found.ensures.reads.steady tt

@@ -7,9 +7,11 @@ use Rattle.http_front.specs.Body.{Uses}
 use Rattle.http_front.specs.Falls.{exact_left}
 use Rattle.http_front.specs.Places.{data_left, data_step, is_limited}
 use Rattle.http_front.specs.Walks.{Fails}
+use Rattle.http_front.specs.declared.fault.BodyFault.TheVariants as fault
 use Rattle.http_front.specs.declared.place.Place.{Place}
 use Rattle.http_front.proofs.FillLemmas.{front-left, front-limit, walked}
-use Rattle.http_front.proofs.WalkLemmas.{kept-count, risen-count, fails-long, fails-bad, fails-read, uses-framing, uses-dropped, data-chunks}
+use Rattle.http_front.proofs.ReadLemmas.{none-failed, reads-then}
+use Rattle.http_front.proofs.WalkLemmas.{fails-long, fails-bad, fails-read, uses-framing, uses-dropped, data-chunks}
 use Rattle.http_front.proofs.walk.fill_piece.Goals as goal
 
 pub returns-then-is_reached-clause-err : goal.returns-then-is_reached-clause-err
@@ -44,7 +46,7 @@ returns-in_err-place-clause-err g c =
     let was : c.pass_framing.result ≡ Err why = c.in_err-place.was in
     let fails = fails-read c.args.most c.args.taken c.walk.count _ _ _ c.args.start c.walk.place c.walk.piece why (omega (arith, c.walk.invariant.within, c.if-count-piece.false)) c.walk.invariant.uses e.err
     (or_from _ _ (sym c.is_whole.ensures ∙ c.if-is_whole.false) (sym c.is_bad.ensures ∙ c.if-is_bad.false))
-    (λ is. e.end (ap Err is)) (λ is. e.kind.0 (ap Err is)) (λ is. e.kind.1 (ap Err is))
+    (λ is. e.steps.end (ap Err is)) (λ is. e.steps.kind.0 (ap Err is)) (λ is. e.steps.kind.1 (ap Err is))
     (λ limited. (limit limited).1) in
     rw same fails
 
@@ -58,13 +60,13 @@ walk-preserved-then-left-eq0 g c =
       under = λ out limited. (limit limited).0;
       exact = λ limited. e.chunked;
       uses = uses-framing _ _ _ c.args.start c.walk.place c.in_ok-place.place (take c.walk.count c.walk.piece) I.uses e.ok;
-      sent = e.same.0 ∙ I.sent;
-      beside = e.same.1 ∙ I.beside;
-      steady = e.steady tt ∙ I.steady;
+      sent = e.steps.reads.same.0 ∙ I.sent;
+      beside = e.steps.reads.same.1 ∙ I.beside;
+      steady = e.steps.reads.steady tt ∙ I.steady;
       quiet = λ decided.
           let q = I.quiet decided in
           let some = front-left c.args.start c.walk.place c.args.most c.args.taken c.walk.count (length c.args.piece.now) c.args.inbox.now c.walk.inbox c.walk.piece c.walk.invariant.within c.if-count-piece.false (omega (arith, c.walk.auto.piece)) q.1 (sym c.is_whole.ensures ∙ c.if-is_whole.false) (sym c.is_bad.ensures ∙ c.if-is_bad.false) limit decided in
-          (e.unasked some ∙ q.0, uses-framing _ _ _ c.args.start c.walk.place c.in_ok-place.place (take c.walk.count c.walk.piece) q.1 (e.inside some));
+          (e.steps.unasked some ∙ q.0, uses-framing _ _ _ c.args.start c.walk.place c.in_ok-place.place (take c.walk.count c.walk.piece) q.1 (e.inside some));
     }
 
 pub returns-in_err-came-clause-err : goal.returns-in_err-came-clause-err
@@ -76,7 +78,7 @@ returns-in_err-came-clause-err g c =
     let same : c.from_residual-in_err-came.result ≡ Err why = cc (p.1, p.2) in
     let fails = fails-read c.args.most c.args.taken c.walk.count _ _ _ c.args.start c.walk.place c.walk.piece why (omega (arith, c.walk.invariant.within, c.if-count-piece.false)) c.walk.invariant.uses e.err
     (or_from _ _ (sym c.is_whole.ensures ∙ c.if-is_whole.false) (sym c.is_bad.ensures ∙ c.if-is_bad.false))
-    (λ is. e.end (ap Err is)) (λ is. e.kind.0 (ap Err is)) (λ is. e.kind.1 (ap Err is))
+    (λ is. e.steps.end (ap Err is)) (λ is. e.steps.kind.0 (ap Err is)) (λ is. e.steps.kind.1 (ap Err is))
     (λ limited. (limit limited).1) in
     let len : length c.take_data.new.piece ≡ length c.walk.piece = omega (arith, c.take_data.auto.piece) in
     let P : ℕ → Type 0 = λ n. Fails c.args.most c.args.taken n (prepended c.args.inbox.now (g.C.Meanings.incoming c.args.client.now)) (prepended c.take_data.new.inbox (g.C.Meanings.incoming c.take_data.new.client)) c.args.start why in
@@ -101,15 +103,15 @@ walk-preserved g c =
       exact = λ limited. ap exact_left c.data_step-place.ensures ∙ (data-chunks c.walk.place came some (I.exact limited)).1;
       uses = subst P (sym c.data_step-place.ensures) (subst R (sym e.put.put)
           (uses-dropped _ _ _ c.args.start c.walk.place (take c.walk.count c.walk.piece) gone came e.put.dropped.count left I.uses e.put.dropped.used));
-      sent = e.same.0 ∙ I.sent;
-      beside = e.same.1 ∙ I.beside;
-      steady = e.steady tt ∙ I.steady;
+      sent = e.steps.reads.same.0 ∙ I.sent;
+      beside = e.steps.reads.same.1 ∙ I.beside;
+      steady = e.steps.reads.steady tt ∙ I.steady;
       quiet = λ decided.
           let q = I.quiet decided in
           let more = front-left c.args.start c.walk.place c.args.most c.args.taken c.walk.count (length c.args.piece.now) c.args.inbox.now c.walk.inbox c.walk.piece c.walk.invariant.within c.if-count-piece.false (omega (arith, c.walk.auto.piece)) q.1 (sym c.is_whole.ensures ∙ c.if-is_whole.false) (sym c.is_bad.ensures ∙ c.if-is_bad.false) limit decided in
           let Q : Place → Type 0 = λ p. Uses (Some c.args.inbox.now) (Some c.take_data.new.inbox) c.args.start p (take (c.walk.count + came) c.take_data.new.piece) in
           let S : List ℕ → Type 0 = λ l. Uses (Some c.args.inbox.now) (Some c.take_data.new.inbox) c.args.start (data_step c.walk.place came) l in (
-            e.unasked more ∙ q.0,
+            e.steps.unasked more ∙ q.0,
             subst Q (sym c.data_step-place.ensures) (subst S (sym e.put.put)
                 (uses-dropped _ _ _ c.args.start c.walk.place (take c.walk.count c.walk.piece) gone came e.put.dropped.count left q.1 (ap Some (e.put.dropped.inside more)))),
           );
@@ -131,70 +133,38 @@ pub returns-in_err-place-clause-unasked : goal.returns-in_err-place-clause-unask
 returns-in_err-place-clause-unasked g c = λ decided.
     let limit = front-limit c.args.start c.walk.place c.args.most c.args.taken c.walk.count c.saturating_add.result c.saturating_add.ensures (sym c.is_reached.ensures ∙ c.if-is_reached.false) c.walk.invariant.under (omega (arith, c.ranges.most)) in
     let q = c.walk.invariant.quiet decided in
-    c.pass_framing.ensures.unasked (front-left c.args.start c.walk.place c.args.most c.args.taken c.walk.count (length c.args.piece.now) c.args.inbox.now c.walk.inbox c.walk.piece c.walk.invariant.within c.if-count-piece.false (omega (arith, c.walk.auto.piece)) q.1 (sym c.is_whole.ensures ∙ c.if-is_whole.false) (sym c.is_bad.ensures ∙ c.if-is_bad.false) limit decided) ∙ q.0
+    c.pass_framing.ensures.steps.unasked (front-left c.args.start c.walk.place c.args.most c.args.taken c.walk.count (length c.args.piece.now) c.args.inbox.now c.walk.inbox c.walk.piece c.walk.invariant.within c.if-count-piece.false (omega (arith, c.walk.auto.piece)) q.1 (sym c.is_whole.ensures ∙ c.if-is_whole.false) (sym c.is_bad.ensures ∙ c.if-is_bad.false) limit decided) ∙ q.0
 
 pub returns-in_err-came-clause-unasked : goal.returns-in_err-came-clause-unasked
 returns-in_err-came-clause-unasked g c = λ decided.
     let limit = front-limit c.args.start c.walk.place c.args.most c.args.taken c.walk.count c.saturating_add.result c.saturating_add.ensures (sym c.is_reached.ensures ∙ c.if-is_reached.false) c.walk.invariant.under (omega (arith, c.ranges.most)) in
     let q = c.walk.invariant.quiet decided in
-    c.take_data.ensures.unasked (front-left c.args.start c.walk.place c.args.most c.args.taken c.walk.count (length c.args.piece.now) c.args.inbox.now c.walk.inbox c.walk.piece c.walk.invariant.within c.if-count-piece.false (omega (arith, c.walk.auto.piece)) q.1 (sym c.is_whole.ensures ∙ c.if-is_whole.false) (sym c.is_bad.ensures ∙ c.if-is_bad.false) limit decided) ∙ q.0
+    c.take_data.ensures.steps.unasked (front-left c.args.start c.walk.place c.args.most c.args.taken c.walk.count (length c.args.piece.now) c.args.inbox.now c.walk.inbox c.walk.piece c.walk.invariant.within c.if-count-piece.false (omega (arith, c.walk.auto.piece)) q.1 (sym c.is_whole.ensures ∙ c.if-is_whole.false) (sym c.is_bad.ensures ∙ c.if-is_bad.false) limit decided) ∙ q.0
 
-pub returns-then-is_reached-clause-fault : goal.returns-then-is_reached-clause-fault
-returns-then-is_reached-clause-fault g c = λ is. absurd cc
+pub returns-then-is_reached-clause-reads : goal.returns-then-is_reached-clause-reads
+returns-then-is_reached-clause-reads g c = none-failed g.C.Meanings fault.Fault _ _ _ _ (λ is. cc) c.walk.invariant.sent c.walk.invariant.beside c.walk.invariant.steady
 
-pub returns-then-is_reached-clause-steady : goal.returns-then-is_reached-clause-steady
-returns-then-is_reached-clause-steady g c = λ calm. c.walk.invariant.steady
+pub returns-then-is_bad-clause-reads : goal.returns-then-is_bad-clause-reads
+returns-then-is_bad-clause-reads g c = none-failed g.C.Meanings fault.Fault _ _ _ _ (λ is. cc) c.walk.invariant.sent c.walk.invariant.beside c.walk.invariant.steady
 
-pub returns-then-is_reached-clause-same : goal.returns-then-is_reached-clause-same
-returns-then-is_reached-clause-same g c = (c.walk.invariant.sent, c.walk.invariant.beside)
+pub returns-then-count-piece-clause-reads : goal.returns-then-count-piece-clause-reads
+returns-then-count-piece-clause-reads g c = none-failed g.C.Meanings fault.Fault _ _ _ _ (λ is. cc) c.walk.invariant.sent c.walk.invariant.beside c.walk.invariant.steady
 
-pub returns-then-is_reached-clause-no_fewer : goal.returns-then-is_reached-clause-no_fewer
-returns-then-is_reached-clause-no_fewer g c = kept-count _ _ c.walk.invariant.steady
+pub returns-then-is_whole-clause-reads : goal.returns-then-is_whole-clause-reads
+returns-then-is_whole-clause-reads g c = none-failed g.C.Meanings fault.Fault _ _ _ _ (λ is. cc) c.walk.invariant.sent c.walk.invariant.beside c.walk.invariant.steady
 
-pub returns-then-is_bad-clause-fault : goal.returns-then-is_bad-clause-fault
-returns-then-is_bad-clause-fault g c = λ is. absurd cc
+pub returns-in_err-place-clause-reads : goal.returns-in_err-place-clause-reads
+returns-in_err-place-clause-reads g c =
+    let I = c.walk.invariant in
+    let why = c.in_err-place.field-0.0 in
+    let p = err_from_is_err_and c.from_residual.result c.from_residual.ensures.1 in
+    let same : c.from_residual.result ≡ Err why = cc (p.1, p.2) in
+    reads-then g.C.Meanings _ _ _ why c.from_residual.result same I.sent I.beside I.steady c.in_err-place.ensures.steps.reads
 
-pub returns-then-is_bad-clause-steady : goal.returns-then-is_bad-clause-steady
-returns-then-is_bad-clause-steady g c = λ calm. c.walk.invariant.steady
-
-pub returns-then-is_bad-clause-same : goal.returns-then-is_bad-clause-same
-returns-then-is_bad-clause-same g c = (c.walk.invariant.sent, c.walk.invariant.beside)
-
-pub returns-then-is_bad-clause-no_fewer : goal.returns-then-is_bad-clause-no_fewer
-returns-then-is_bad-clause-no_fewer g c = kept-count _ _ c.walk.invariant.steady
-
-pub returns-then-count-piece-clause-fault : goal.returns-then-count-piece-clause-fault
-returns-then-count-piece-clause-fault g c = λ is. absurd cc
-
-pub returns-then-count-piece-clause-steady : goal.returns-then-count-piece-clause-steady
-returns-then-count-piece-clause-steady g c = λ calm. c.walk.invariant.steady
-
-pub returns-then-count-piece-clause-same : goal.returns-then-count-piece-clause-same
-returns-then-count-piece-clause-same g c = (c.walk.invariant.sent, c.walk.invariant.beside)
-
-pub returns-then-count-piece-clause-no_fewer : goal.returns-then-count-piece-clause-no_fewer
-returns-then-count-piece-clause-no_fewer g c = kept-count _ _ c.walk.invariant.steady
-
-pub returns-then-is_whole-clause-fault : goal.returns-then-is_whole-clause-fault
-returns-then-is_whole-clause-fault g c = λ is. absurd cc
-
-pub returns-then-is_whole-clause-steady : goal.returns-then-is_whole-clause-steady
-returns-then-is_whole-clause-steady g c = λ calm. c.walk.invariant.steady
-
-pub returns-then-is_whole-clause-same : goal.returns-then-is_whole-clause-same
-returns-then-is_whole-clause-same g c = (c.walk.invariant.sent, c.walk.invariant.beside)
-
-pub returns-then-is_whole-clause-no_fewer : goal.returns-then-is_whole-clause-no_fewer
-returns-then-is_whole-clause-no_fewer g c = kept-count _ _ c.walk.invariant.steady
-
-pub returns-in_err-place-clause-same : goal.returns-in_err-place-clause-same
-returns-in_err-place-clause-same g c = (c.pass_framing.ensures.same.0 ∙ c.walk.invariant.sent, c.pass_framing.ensures.same.1 ∙ c.walk.invariant.beside)
-
-pub returns-in_err-place-clause-no_fewer : goal.returns-in_err-place-clause-no_fewer
-returns-in_err-place-clause-no_fewer g c = risen-count _ _ _ c.walk.invariant.steady c.pass_framing.ensures.no_fewer
-
-pub returns-in_err-came-clause-same : goal.returns-in_err-came-clause-same
-returns-in_err-came-clause-same g c = (c.take_data.ensures.same.0 ∙ c.walk.invariant.sent, c.take_data.ensures.same.1 ∙ c.walk.invariant.beside)
-
-pub returns-in_err-came-clause-no_fewer : goal.returns-in_err-came-clause-no_fewer
-returns-in_err-came-clause-no_fewer g c = risen-count _ _ _ c.walk.invariant.steady c.take_data.ensures.no_fewer
+pub returns-in_err-came-clause-reads : goal.returns-in_err-came-clause-reads
+returns-in_err-came-clause-reads g c =
+    let I = c.walk.invariant in
+    let why = c.in_err-came.field-0.0 in
+    let p = err_from_is_err_and c.from_residual-in_err-came.result c.from_residual-in_err-came.ensures.1 in
+    let same : c.from_residual-in_err-came.result ≡ Err why = cc (p.1, p.2) in
+    reads-then g.C.Meanings _ _ _ why c.from_residual-in_err-came.result same I.sent I.beside I.steady c.in_err-came.ensures.steps.reads

@@ -6,12 +6,14 @@ use Rattle.std.proofs.lemmas.Result.{err_from_is_err_and}
 use Rattle.http_front.specs.Body.{Uses}
 use Rattle.http_front.specs.Falls.{framing_left, exact_left}
 use Rattle.http_front.specs.Places.{data_left, is_limited}
+use Rattle.http_front.specs.declared.fault.BodyFault.TheVariants as fault
 use Rattle.http_front.specs.declared.place.Place.{Place}
 use Rattle.http_front.specs.Walks.{IsUnder, is_reached}
 use Rattle.http_front.specs.Wants.{Rest}
 use Rattle.http_front.proofs.QuietLemmas.{some-left}
 use Rattle.http_front.proofs.BodyLemmas.{Uses-nil}
-use Rattle.http_front.proofs.WalkLemmas.{kept-count, risen-count, bad-place, breaks-read, uses-framing, uses-dropped, drop-smaller, under-now, data-chunks, start-exact}
+use Rattle.http_front.proofs.ReadLemmas.{none-failed, reads-then}
+use Rattle.http_front.proofs.WalkLemmas.{bad-place, breaks-read, uses-framing, uses-dropped, drop-smaller, under-now, data-chunks, start-exact}
 use Rattle.http_front.proofs.walk.pass_body.Goals as goal
 
 pub walk-init : goal.walk-init
@@ -40,14 +42,14 @@ walk-preserved-then-left-eq0 g c =
       exact = λ limited. e.chunked;
       uses = uses-framing _ _ _ c.args.start c.walk.place c.in_ok-place.place I.passed I.uses e.ok;
       counts = I.counts;
-      sent = e.same.0 ∙ I.sent;
-      beside = e.same.1 ∙ I.beside;
-      steady = e.steady tt ∙ I.steady;
+      sent = e.steps.reads.same.0 ∙ I.sent;
+      beside = e.steps.reads.same.1 ∙ I.beside;
+      steady = e.steps.reads.steady tt ∙ I.steady;
       quiet = λ decided.
           let q = I.quiet decided in
           let below : IsUnder c.args.most c.args.taken c.args.start I.passed = λ limited. (under-now c.args.start c.walk.place c.args.most c.args.taken (length I.passed) c.walk.sum I.counts (sym c.is_reached.ensures ∙ c.if-is_reached.false) I.under (omega (arith, c.ranges.most)) limited).1 in
           let more = some-left Rest _ _ c.args.inbox.now c.walk.inbox c.args.start c.walk.place I.passed q.1 (or_from _ _ (sym c.is_whole.ensures ∙ c.if-is_whole.false) (sym c.is_bad.ensures ∙ c.if-is_bad.false)) tt below decided in
-          (e.unasked more ∙ q.0, uses-framing _ _ _ c.args.start c.walk.place c.in_ok-place.place I.passed q.1 (e.inside more));
+          (e.steps.unasked more ∙ q.0, uses-framing _ _ _ c.args.start c.walk.place c.in_ok-place.place I.passed q.1 (e.inside more));
     }
 
 pub walk-preserved : goal.walk-preserved
@@ -62,15 +64,15 @@ walk-preserved g c =
       exact = λ limited. ap exact_left c.data_step-place.ensures ∙ (data-chunks c.walk.place c.in_ok-count.count some (I.exact limited)).1;
       uses = subst P (sym c.data_step-place.ensures) (uses-dropped _ _ _ c.args.start c.walk.place I.passed e.gone.gone c.in_ok-count.count e.gone.count (omega (arith, e.count.1, c.data_left-left.ensures)) I.uses e.gone.used);
       counts = omega (arith, c.saturating_add-sum.ensures, I.counts, e.gone.count, length-append I.passed e.gone.gone);
-      sent = e.same.0 ∙ I.sent;
-      beside = e.same.1 ∙ I.beside;
-      steady = e.steady tt ∙ I.steady;
+      sent = e.steps.reads.same.0 ∙ I.sent;
+      beside = e.steps.reads.same.1 ∙ I.beside;
+      steady = e.steps.reads.steady tt ∙ I.steady;
       quiet = λ decided.
           let q = I.quiet decided in
           let below : IsUnder c.args.most c.args.taken c.args.start I.passed = λ limited. (under-now c.args.start c.walk.place c.args.most c.args.taken (length I.passed) c.walk.sum I.counts (sym c.is_reached.ensures ∙ c.if-is_reached.false) I.under (omega (arith, c.ranges.most)) limited).1 in
           let more = some-left Rest _ _ c.args.inbox.now c.walk.inbox c.args.start c.walk.place I.passed q.1 (or_from _ _ (sym c.is_whole.ensures ∙ c.if-is_whole.false) (sym c.is_bad.ensures ∙ c.if-is_bad.false)) tt below decided in
           let Q : Place → Type 0 = λ p. Uses (Some c.args.inbox.now) (Some c.drop_data.new.inbox) c.args.start p (I.passed ++ e.gone.gone) in
-          (e.unasked more ∙ q.0, subst Q (sym c.data_step-place.ensures) (uses-dropped _ _ _ c.args.start c.walk.place I.passed e.gone.gone c.in_ok-count.count e.gone.count (omega (arith, e.count.1, c.data_left-left.ensures)) q.1 (ap Some (e.gone.inside more))));
+          (e.steps.unasked more ∙ q.0, subst Q (sym c.data_step-place.ensures) (uses-dropped _ _ _ c.args.start c.walk.place I.passed e.gone.gone c.in_ok-count.count e.gone.count (omega (arith, e.count.1, c.data_left-left.ensures)) q.1 (ap Some (e.gone.inside more))));
     }
 
 pub walk-smaller : goal.walk-smaller
@@ -94,14 +96,14 @@ returns-in_err-place-clause-unasked g c = λ decided.
     let I = c.walk.invariant in
     let q = I.quiet decided in
     let below : IsUnder c.args.most c.args.taken c.args.start I.passed = λ limited. (under-now c.args.start c.walk.place c.args.most c.args.taken (length I.passed) c.walk.sum I.counts (sym c.is_reached.ensures ∙ c.if-is_reached.false) I.under (omega (arith, c.ranges.most)) limited).1 in
-    c.pass_framing.ensures.unasked (some-left Rest _ _ c.args.inbox.now c.walk.inbox c.args.start c.walk.place I.passed q.1 (or_from _ _ (sym c.is_whole.ensures ∙ c.if-is_whole.false) (sym c.is_bad.ensures ∙ c.if-is_bad.false)) tt below decided) ∙ q.0
+    c.pass_framing.ensures.steps.unasked (some-left Rest _ _ c.args.inbox.now c.walk.inbox c.args.start c.walk.place I.passed q.1 (or_from _ _ (sym c.is_whole.ensures ∙ c.if-is_whole.false) (sym c.is_bad.ensures ∙ c.if-is_bad.false)) tt below decided) ∙ q.0
 
 pub returns-in_err-count-clause-unasked : goal.returns-in_err-count-clause-unasked
 returns-in_err-count-clause-unasked g c = λ decided.
     let I = c.walk.invariant in
     let q = I.quiet decided in
     let below : IsUnder c.args.most c.args.taken c.args.start I.passed = λ limited. (under-now c.args.start c.walk.place c.args.most c.args.taken (length I.passed) c.walk.sum I.counts (sym c.is_reached.ensures ∙ c.if-is_reached.false) I.under (omega (arith, c.ranges.most)) limited).1 in
-    c.drop_data.ensures.unasked (some-left Rest _ _ c.args.inbox.now c.walk.inbox c.args.start c.walk.place I.passed q.1 (or_from _ _ (sym c.is_whole.ensures ∙ c.if-is_whole.false) (sym c.is_bad.ensures ∙ c.if-is_bad.false)) tt below decided) ∙ q.0
+    c.drop_data.ensures.steps.unasked (some-left Rest _ _ c.args.inbox.now c.walk.inbox c.args.start c.walk.place I.passed q.1 (or_from _ _ (sym c.is_whole.ensures ∙ c.if-is_whole.false) (sym c.is_bad.ensures ∙ c.if-is_bad.false)) tt below decided) ∙ q.0
 
 pub returns-then-is_reached-clause-err : goal.returns-then-is_reached-clause-err
 returns-then-is_reached-clause-err g c =
@@ -147,7 +149,7 @@ returns-in_err-place-clause-err g c =
     let same : c.from_residual.result ≡ Err why = cc (p.1, p.2) in
     let breaks = breaks-read c.args.most c.args.taken _ _ _ c.args.start c.walk.place I.passed why I.uses e.err
     (or_from _ _ (sym c.is_whole.ensures ∙ c.if-is_whole.false) (sym c.is_bad.ensures ∙ c.if-is_bad.false))
-    (λ is. e.end (ap Err is)) (λ is. e.kind.0 (ap Err is)) (λ is. e.kind.1 (ap Err is))
+    (λ is. e.steps.end (ap Err is)) (λ is. e.steps.kind.0 (ap Err is)) (λ is. e.steps.kind.1 (ap Err is))
     (λ limited. (under-now c.args.start c.walk.place c.args.most c.args.taken (length I.passed) c.walk.sum I.counts (sym c.is_reached.ensures ∙ c.if-is_reached.false) I.under (omega (arith, c.ranges.most)) limited).1) in
     rw same breaks
 
@@ -160,54 +162,31 @@ returns-in_err-count-clause-err g c =
     let same : c.from_residual-in_err-count.result ≡ Err why = cc (p.1, p.2) in
     let breaks = breaks-read c.args.most c.args.taken _ _ _ c.args.start c.walk.place I.passed why I.uses e.err
     (or_from _ _ (sym c.is_whole.ensures ∙ c.if-is_whole.false) (sym c.is_bad.ensures ∙ c.if-is_bad.false))
-    (λ is. e.end (ap Err is)) (λ is. e.kind.0 (ap Err is)) (λ is. e.kind.1 (ap Err is))
+    (λ is. e.steps.end (ap Err is)) (λ is. e.steps.kind.0 (ap Err is)) (λ is. e.steps.kind.1 (ap Err is))
     (λ limited. (under-now c.args.start c.walk.place c.args.most c.args.taken (length I.passed) c.walk.sum I.counts (sym c.is_reached.ensures ∙ c.if-is_reached.false) I.under (omega (arith, c.ranges.most)) limited).1) in
     rw same breaks
 
-pub returns-then-is_reached-clause-fault : goal.returns-then-is_reached-clause-fault
-returns-then-is_reached-clause-fault g c = λ is. absurd cc
+pub returns-then-is_reached-clause-reads : goal.returns-then-is_reached-clause-reads
+returns-then-is_reached-clause-reads g c = none-failed g.C.Meanings fault.Fault _ _ _ _ (λ is. cc) c.walk.invariant.sent c.walk.invariant.beside c.walk.invariant.steady
 
-pub returns-then-is_reached-clause-steady : goal.returns-then-is_reached-clause-steady
-returns-then-is_reached-clause-steady g c = λ calm. c.walk.invariant.steady
+pub returns-then-is_bad-clause-reads : goal.returns-then-is_bad-clause-reads
+returns-then-is_bad-clause-reads g c = none-failed g.C.Meanings fault.Fault _ _ _ _ (λ is. cc) c.walk.invariant.sent c.walk.invariant.beside c.walk.invariant.steady
 
-pub returns-then-is_reached-clause-same : goal.returns-then-is_reached-clause-same
-returns-then-is_reached-clause-same g c = (c.walk.invariant.sent, c.walk.invariant.beside)
+pub returns-then-is_whole-clause-reads : goal.returns-then-is_whole-clause-reads
+returns-then-is_whole-clause-reads g c = none-failed g.C.Meanings fault.Fault _ _ _ _ (λ is. cc) c.walk.invariant.sent c.walk.invariant.beside c.walk.invariant.steady
 
-pub returns-then-is_reached-clause-no_fewer : goal.returns-then-is_reached-clause-no_fewer
-returns-then-is_reached-clause-no_fewer g c = kept-count _ _ c.walk.invariant.steady
+pub returns-in_err-place-clause-reads : goal.returns-in_err-place-clause-reads
+returns-in_err-place-clause-reads g c =
+    let I = c.walk.invariant in
+    let why = c.in_err-place.field-0.0 in
+    let p = err_from_is_err_and c.from_residual.result c.from_residual.ensures.1 in
+    let same : c.from_residual.result ≡ Err why = cc (p.1, p.2) in
+    reads-then g.C.Meanings _ _ _ why c.from_residual.result same I.sent I.beside I.steady c.in_err-place.ensures.steps.reads
 
-pub returns-then-is_bad-clause-fault : goal.returns-then-is_bad-clause-fault
-returns-then-is_bad-clause-fault g c = λ is. absurd cc
-
-pub returns-then-is_bad-clause-steady : goal.returns-then-is_bad-clause-steady
-returns-then-is_bad-clause-steady g c = λ calm. c.walk.invariant.steady
-
-pub returns-then-is_bad-clause-same : goal.returns-then-is_bad-clause-same
-returns-then-is_bad-clause-same g c = (c.walk.invariant.sent, c.walk.invariant.beside)
-
-pub returns-then-is_bad-clause-no_fewer : goal.returns-then-is_bad-clause-no_fewer
-returns-then-is_bad-clause-no_fewer g c = kept-count _ _ c.walk.invariant.steady
-
-pub returns-then-is_whole-clause-fault : goal.returns-then-is_whole-clause-fault
-returns-then-is_whole-clause-fault g c = λ is. absurd cc
-
-pub returns-then-is_whole-clause-steady : goal.returns-then-is_whole-clause-steady
-returns-then-is_whole-clause-steady g c = λ calm. c.walk.invariant.steady
-
-pub returns-then-is_whole-clause-same : goal.returns-then-is_whole-clause-same
-returns-then-is_whole-clause-same g c = (c.walk.invariant.sent, c.walk.invariant.beside)
-
-pub returns-then-is_whole-clause-no_fewer : goal.returns-then-is_whole-clause-no_fewer
-returns-then-is_whole-clause-no_fewer g c = kept-count _ _ c.walk.invariant.steady
-
-pub returns-in_err-place-clause-same : goal.returns-in_err-place-clause-same
-returns-in_err-place-clause-same g c = (c.pass_framing.ensures.same.0 ∙ c.walk.invariant.sent, c.pass_framing.ensures.same.1 ∙ c.walk.invariant.beside)
-
-pub returns-in_err-place-clause-no_fewer : goal.returns-in_err-place-clause-no_fewer
-returns-in_err-place-clause-no_fewer g c = risen-count _ _ _ c.walk.invariant.steady c.pass_framing.ensures.no_fewer
-
-pub returns-in_err-count-clause-same : goal.returns-in_err-count-clause-same
-returns-in_err-count-clause-same g c = (c.drop_data.ensures.same.0 ∙ c.walk.invariant.sent, c.drop_data.ensures.same.1 ∙ c.walk.invariant.beside)
-
-pub returns-in_err-count-clause-no_fewer : goal.returns-in_err-count-clause-no_fewer
-returns-in_err-count-clause-no_fewer g c = risen-count _ _ _ c.walk.invariant.steady c.drop_data.ensures.no_fewer
+pub returns-in_err-count-clause-reads : goal.returns-in_err-count-clause-reads
+returns-in_err-count-clause-reads g c =
+    let I = c.walk.invariant in
+    let why = c.in_err-count.field-0.0 in
+    let p = err_from_is_err_and c.from_residual-in_err-count.result c.from_residual-in_err-count.ensures.1 in
+    let same : c.from_residual-in_err-count.result ≡ Err why = cc (p.1, p.2) in
+    reads-then g.C.Meanings _ _ _ why c.from_residual-in_err-count.result same I.sent I.beside I.steady c.in_err-count.ensures.steps.reads
