@@ -1,5 +1,5 @@
 //! Openings, as the lines of a journal's text have them: `lb`, `member`, `lease` and `from`.
-ghost use Rattle.std.specs.Prelude.{◌≡◌, [], IfOk, IfSome};
+ghost use Rattle.std.specs.Prelude.{◌≡◌, []};
 ghost use Rattle.lb_model.specs.declared.segment.TheConstants.{MODERN_RULES};
 
 use crate::texts::{first_word, put_line};
@@ -8,6 +8,22 @@ use journal_text::{TextError, read_segments};
 use lb_book::Book;
 use lb_model::{LbConfig, Opening, Segment};
 use std::alloc::Global;
+
+/// A Book of rules 2.
+#[derive(Drop)]
+pub struct ModernBook {
+    pub book: Book,
+    pub ghost modern: { book.rules ≡ MODERN_RULES },
+}
+
+/// A Book of rules 2 that no call has changed yet.
+#[derive(Drop)]
+pub struct FreshBook {
+    pub book: Book,
+    pub ghost modern: { book.rules ≡ MODERN_RULES },
+    pub ghost unasked: { book.added ≡ 0 },
+    pub ghost empty: { book.entries ≡ [] },
+}
 
 /// Whether a line is one of an opening.
 pub fn is_opening_line(line: &str) -> bool {
@@ -69,18 +85,15 @@ fn start_with(
     config: LbConfig,
     at: u64,
     first: u64,
-) -> Result<Option<Book>, NoMemory>
-    ensures { IfOk result (λ found. IfSome found (λ b. (b.rules ≡ MODERN_RULES) × (b.added ≡ 0) × (b.entries ≡ []))) }
-{
+) -> Result<Option<FreshBook>, NoMemory> {
     if first > 1 << 48 {
         return Ok(None);
     }
-    Ok(Some(Book::start(alloc, config, at, first)?))
+    let book = Book::start(alloc, config, at, first)?;
+    Ok(Some(FreshBook { book }))
 }
 
-fn start(alloc: Global, opening: Opening) -> Result<Option<Book>, NoMemory>
-    ensures { IfOk result (λ found. IfSome found (λ b. (b.rules ≡ MODERN_RULES) × (b.added ≡ 0) × (b.entries ≡ []))) }
-{
+fn start(alloc: Global, opening: Opening) -> Result<Option<FreshBook>, NoMemory> {
     let Opening {
         config,
         next,
@@ -91,20 +104,17 @@ fn start(alloc: Global, opening: Opening) -> Result<Option<Book>, NoMemory>
 }
 
 /// A Book that goes on from an opening.
-pub fn resume(opening: Opening) -> Result<Option<Book>, NoMemory>
-    ensures { IfOk result (λ found. IfSome found (λ b. b.rules ≡ MODERN_RULES)) }
-{
+pub fn resume(opening: Opening) -> Result<Option<ModernBook>, NoMemory> {
     let valid = opening.is_valid();
     if !valid {
         return Ok(None);
     }
-    Ok(Some(Book::resume(opening, 2)?))
+    let book = Book::resume(opening, 2)?;
+    Ok(Some(ModernBook { book }))
 }
 
 /// A Book that starts with the configuration, the moment and the number of the opening that these lines are.
-pub fn started(alloc: Global, lines: &[u8]) -> Result<Option<Book>, NoMemory>
-    ensures { IfOk result (λ found. IfSome found (λ b. (b.rules ≡ MODERN_RULES) × (b.added ≡ 0) × (b.entries ≡ []))) }
-{
+pub fn started(alloc: Global, lines: &[u8]) -> Result<Option<FreshBook>, NoMemory> {
     match opening_of(alloc, lines)? {
         Some(opening) => start(alloc, opening),
         None => Ok(None),
@@ -112,9 +122,7 @@ pub fn started(alloc: Global, lines: &[u8]) -> Result<Option<Book>, NoMemory>
 }
 
 /// A Book that goes on from the opening that these lines are.
-pub fn resumed(alloc: Global, lines: &[u8]) -> Result<Option<Book>, NoMemory>
-    ensures { IfOk result (λ found. IfSome found (λ b. b.rules ≡ MODERN_RULES)) }
-{
+pub fn resumed(alloc: Global, lines: &[u8]) -> Result<Option<ModernBook>, NoMemory> {
     match opening_of(alloc, lines)? {
         Some(opening) => resume(opening),
         None => Ok(None),
@@ -122,8 +130,6 @@ pub fn resumed(alloc: Global, lines: &[u8]) -> Result<Option<Book>, NoMemory>
 }
 
 /// A Book that starts with the opening in a row.
-pub fn book_of_row(alloc: Global, row: &str) -> Result<Option<Book>, NoMemory>
-    ensures { IfOk result (λ found. IfSome found (λ b. (b.rules ≡ MODERN_RULES) × (b.added ≡ 0) × (b.entries ≡ []))) }
-{
+pub fn book_of_row(alloc: Global, row: &str) -> Result<Option<FreshBook>, NoMemory> {
     started(alloc, opening_lines(alloc, row)?.as_slice())
 }

@@ -3,7 +3,8 @@
 //! A call stands as in a journal's line: `SESSION AT CALL`. An entry is told as its line there, and a refusal by its name
 //! and its numbers.
 
-ghost use Rattle.std.specs.Prelude.{◌≤◌, IfSome};
+ghost use Rattle.std.specs.Prelude.{◌≤◌};
+ghost use Rattle.lb_model.specs.declared.journal.TheConstants.{MOST_BYTES};
 
 use crate::texts::{put_given, put_number};
 use jk_io::{Bytes, NoMemory};
@@ -12,6 +13,13 @@ use lb_model::{
     AdminError, Call, Command, Entry, FullMark, MODERN_RULES, MOST_BYTES, Outcome, RoomError, Stray,
 };
 use std::alloc::Global;
+
+/// How a ticket may come back: its outcome is of at most 2^44 bytes.
+#[derive(Clone, Copy)]
+pub struct FitOutcome {
+    pub outcome: Outcome,
+    pub ghost bytes: { outcome.bytes ≤ MOST_BYTES },
+}
 
 fn entry_in(line: Option<Line>) -> Option<Entry> {
     match line {
@@ -56,11 +64,11 @@ pub fn command_of(entry: &Entry) -> Option<Command> {
 }
 
 /// How the ticket of a call comes back, where it is a Return of at most 2^44 bytes.
-pub fn outcome_of(entry: &Entry) -> Option<Outcome>
-    ensures { IfSome result (λ outcome. outcome.bytes ≤ MOST_BYTES) }
-{
+pub fn outcome_of(entry: &Entry) -> Option<FitOutcome> {
     match entry.call {
-        Call::Return { ticket: _, outcome } if outcome.bytes <= MOST_BYTES => Some(outcome),
+        Call::Return { ticket: _, outcome } if outcome.bytes <= MOST_BYTES => {
+            Some(FitOutcome { outcome })
+        }
         _ => None,
     }
 }

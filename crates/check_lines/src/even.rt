@@ -8,11 +8,11 @@ ghost use Rattle.lb_model.specs.States.{is_balanced};
 ghost use Rattle.lb_model.specs.declared.member.Method.{Method};
 ghost use Rattle.lb_book.specs.Journal.{past_of};
 ghost use Rattle.lb_book.specs.Weights.{IsEvenEpoch};
-ghost use Rattle.lb_model.specs.declared.journal.TheConstants.{MOST_BYTES};
 
+use crate::calls::FitOutcome;
 use jk_io::NoMemory;
 use lb_book::{Book, Picked};
-use lb_model::{Ask, Entry, FullMark, LbConfig, Outcome, RoomError, Stray};
+use lb_model::{Ask, Entry, FullMark, LbConfig, RoomError, Stray};
 use std::alloc::Global;
 
 /// A balancer by Request, whose loads are equal at its start.
@@ -36,15 +36,9 @@ pub fn select_evenly(book: &mut Book, at: u64, ask: &Ask) -> Result<Picked, Room
 }
 
 /// Returns a ticket, which changes no load.
-pub fn return_evenly(
-    book: &mut Book,
-    at: u64,
-    ticket: u64,
-    outcome: Outcome,
-) -> Result<Entry, Stray>
-    requires bytes { outcome.bytes ≤ MOST_BYTES }
+pub fn return_evenly(book: &mut Book, at: u64, ticket: u64, fit: FitOutcome) -> Result<Entry, Stray>
     requires even { IsEvenEpoch book.old.rules book.old.opening (past_of book.old) }
     ensures { IsEvenEpoch book.new.rules book.new.opening (past_of book.new) }
 {
-    book.return_ticket(0, at, ticket, outcome)
+    book.return_ticket(0, at, ticket, fit.outcome)
 }

@@ -6,26 +6,25 @@ ghost use Rattle.std.specs.Prelude.{◌≡◌, ◌≤◌, ◌<◌, ◌∷◌, re
 ghost use Rattle.lb_model.specs.Choice.{IsPick};
 ghost use Rattle.lb_model.specs.Legal.{IsLegalPast};
 ghost use Rattle.lb_model.specs.declared.journal.Call.{Call};
-ghost use Rattle.lb_model.specs.declared.segment.TheConstants.{MODERN_RULES};
-ghost use Rattle.lb_model.specs.declared.journal.TheConstants.{MOST_BYTES};
 
+use crate::begin::ModernBook;
+use crate::calls::FitOutcome;
 use jk_io::NoMemory;
 use lb_book::{Book, Picked};
 use lb_model::laws::{
     choice_is_good, epoch_adds_up, history_is_bounded, maintenance_halves, state_is_the_last_touch,
     ticket_begins, ticket_ends,
 };
-use lb_model::{
-    AdminError, Ask, Command, Entry, FullMark, Method, Outcome, RoomError, Segment, Stray,
-};
+use lb_model::{AdminError, Ask, Command, Entry, FullMark, Method, RoomError, Segment, Stray};
 
 /// Selects. A choice is a good one, and begins its ticket.
-pub fn select_lawfully(book: &mut Book, at: u64, ask: &Ask) -> Result<Picked, RoomError<FullMark>>
-    requires { book.old.rules ≡ MODERN_RULES }
-    ensures rules { book.new.rules ≡ MODERN_RULES }
-{
-    let before = book.segment()?;
-    let picked = book.select(0, at, ask)?;
+pub fn select_lawfully(
+    modern: &mut ModernBook,
+    at: u64,
+    ask: &Ask,
+) -> Result<Picked, RoomError<FullMark>> {
+    let before = modern.book.segment()?;
+    let picked = modern.book.select(0, at, ask)?;
     cite_choice(&before, ask, &picked.entry);
     Ok(picked)
 }
@@ -42,17 +41,13 @@ fn cite_choice(before: &Segment, ask: &Ask, entry: &Entry)
 
 /// Returns a ticket, which then is out no longer.
 pub fn return_lawfully(
-    book: &mut Book,
+    modern: &mut ModernBook,
     at: u64,
     ticket: u64,
-    outcome: Outcome,
-) -> Result<Result<Entry, Stray>, NoMemory>
-    requires bytes { outcome.bytes ≤ MOST_BYTES }
-    requires rules { book.old.rules ≡ MODERN_RULES }
-    ensures rules { book.new.rules ≡ MODERN_RULES }
-{
-    let before = book.segment()?;
-    let answer = book.return_ticket(0, at, ticket, outcome);
+    fit: FitOutcome,
+) -> Result<Result<Entry, Stray>, NoMemory> {
+    let before = modern.book.segment()?;
+    let answer = modern.book.return_ticket(0, at, ticket, fit.outcome);
     if let Ok(entry) = &answer {
         ticket_ends(
             &before.opening,
@@ -66,12 +61,12 @@ pub fn return_lawfully(
 }
 
 /// Does a Maintain if due: it halves the loads, except by Busyness.
-pub fn maintain_lawfully(book: &mut Book, at: u64) -> Result<Option<Entry>, RoomError<FullMark>>
-    requires { book.old.rules ≡ MODERN_RULES }
-    ensures rules { book.new.rules ≡ MODERN_RULES }
-{
-    let before = book.segment()?;
-    let done = book.maintain_if_due(0, at)?;
+pub fn maintain_lawfully(
+    modern: &mut ModernBook,
+    at: u64,
+) -> Result<Option<Entry>, RoomError<FullMark>> {
+    let before = modern.book.segment()?;
+    let done = modern.book.maintain_if_due(0, at)?;
     if let Some(entry) = &done {
         cite_maintenance(&before, entry);
     }
@@ -88,12 +83,13 @@ fn cite_maintenance(before: &Segment, entry: &Entry)
 }
 
 /// Resets a member. Its state is then what this entry gives, the last one that touches it.
-pub fn reset_lawfully(book: &mut Book, at: u64, member: u32) -> Result<Entry, AdminError<FullMark>>
-    requires { book.old.rules ≡ MODERN_RULES }
-    ensures rules { book.new.rules ≡ MODERN_RULES }
-{
-    let before = book.segment()?;
-    let entry = book.admin(0, at, &Command::Reset { member })?;
+pub fn reset_lawfully(
+    modern: &mut ModernBook,
+    at: u64,
+    member: u32,
+) -> Result<Entry, AdminError<FullMark>> {
+    let before = modern.book.segment()?;
+    let entry = modern.book.admin(0, at, &Command::Reset { member })?;
     let past = before.entries.as_slice();
     state_is_the_last_touch(before.rules, &before.opening, past, &entry, &[], member);
     Ok(entry)

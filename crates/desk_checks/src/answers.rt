@@ -1,23 +1,23 @@
 //! Calls of a Book of rules 2, and what is told of their answers. A call of session 0 goes by the callers that cite the
 //! laws.
-ghost use Rattle.std.specs.Prelude.{◌≡◌, ◌≤◌};
-ghost use Rattle.lb_model.specs.declared.segment.TheConstants.{MODERN_RULES};
-ghost use Rattle.lb_model.specs.declared.journal.TheConstants.{MOST_BYTES};
 
-use check_lines::calls::{tell_admin, tell_entry, tell_full, tell_room, tell_stray};
+use check_lines::begin::ModernBook;
+use check_lines::calls::{FitOutcome, tell_admin, tell_entry, tell_full, tell_room, tell_stray};
 use check_lines::{maintain_lawfully, reset_lawfully, return_lawfully, select_lawfully};
 use jk_io::{Bytes, NoMemory};
-use lb_book::{Book, Picked};
-use lb_model::{AdminError, Ask, Command, Entry, FullMark, Outcome, RoomError, Stray};
+use lb_book::Picked;
+use lb_model::{AdminError, Ask, Command, Entry, FullMark, RoomError, Stray};
 
-fn select(book: &mut Book, session: u32, at: u64, ask: &Ask) -> Result<Picked, RoomError<FullMark>>
-    requires { book.old.rules ≡ MODERN_RULES }
-    ensures { book.new.rules ≡ MODERN_RULES }
-{
+fn select(
+    modern: &mut ModernBook,
+    session: u32,
+    at: u64,
+    ask: &Ask,
+) -> Result<Picked, RoomError<FullMark>> {
     if session == 0 {
-        select_lawfully(book, at, ask)
+        select_lawfully(modern, at, ask)
     } else {
-        book.select(session, at, ask)
+        modern.book.select(session, at, ask)
     }
 }
 
@@ -31,16 +31,13 @@ fn chosen(picked: Picked) -> Entry {
 }
 
 pub fn tell_select(
-    book: &mut Book,
+    modern: &mut ModernBook,
     session: u32,
     at: u64,
     ask: &Ask,
     out: &mut Bytes,
-) -> Result<bool, NoMemory>
-    requires { book.old.rules ≡ MODERN_RULES }
-    ensures { book.new.rules ≡ MODERN_RULES }
-{
-    match select(book, session, at, ask) {
+) -> Result<bool, NoMemory> {
+    match select(modern, session, at, ask) {
         Ok(picked) => tell_entry(out, &chosen(picked))?,
         Err(error) => tell_room(out, &error)?,
     }
@@ -48,20 +45,16 @@ pub fn tell_select(
 }
 
 fn return_ticket(
-    book: &mut Book,
+    modern: &mut ModernBook,
     session: u32,
     at: u64,
     ticket: u64,
-    outcome: Outcome,
-) -> Result<Result<Entry, Stray>, NoMemory>
-    requires bytes { outcome.bytes ≤ MOST_BYTES }
-    requires rules { book.old.rules ≡ MODERN_RULES }
-    ensures rules { book.new.rules ≡ MODERN_RULES }
-{
+    fit: FitOutcome,
+) -> Result<Result<Entry, Stray>, NoMemory> {
     if session == 0 {
-        return_lawfully(book, at, ticket, outcome)
+        return_lawfully(modern, at, ticket, fit)
     } else {
-        Ok(book.return_ticket(session, at, ticket, outcome))
+        Ok(modern.book.return_ticket(session, at, ticket, fit.outcome))
     }
 }
 
@@ -75,42 +68,36 @@ pub fn tell_back(back: &Result<Entry, Stray>, out: &mut Bytes) -> Result<bool, N
 }
 
 pub fn tell_return(
-    book: &mut Book,
+    modern: &mut ModernBook,
     session: u32,
     at: u64,
     ticket: u64,
-    outcome: Outcome,
+    fit: FitOutcome,
     out: &mut Bytes,
-) -> Result<bool, NoMemory>
-    requires bytes { outcome.bytes ≤ MOST_BYTES }
-    requires rules { book.old.rules ≡ MODERN_RULES }
-    ensures rules { book.new.rules ≡ MODERN_RULES }
-{
-    let back = return_ticket(book, session, at, ticket, outcome)?;
+) -> Result<bool, NoMemory> {
+    let back = return_ticket(modern, session, at, ticket, fit)?;
     tell_back(&back, out)
 }
 
-fn maintain(book: &mut Book, session: u32, at: u64) -> Result<Option<Entry>, RoomError<FullMark>>
-    requires { book.old.rules ≡ MODERN_RULES }
-    ensures { book.new.rules ≡ MODERN_RULES }
-{
+fn maintain(
+    modern: &mut ModernBook,
+    session: u32,
+    at: u64,
+) -> Result<Option<Entry>, RoomError<FullMark>> {
     if session == 0 {
-        maintain_lawfully(book, at)
+        maintain_lawfully(modern, at)
     } else {
-        book.maintain_if_due(session, at)
+        modern.book.maintain_if_due(session, at)
     }
 }
 
 pub fn tell_maintain(
-    book: &mut Book,
+    modern: &mut ModernBook,
     session: u32,
     at: u64,
     out: &mut Bytes,
-) -> Result<bool, NoMemory>
-    requires { book.old.rules ≡ MODERN_RULES }
-    ensures { book.new.rules ≡ MODERN_RULES }
-{
-    match maintain(book, session, at) {
+) -> Result<bool, NoMemory> {
+    match maintain(modern, session, at) {
         Ok(Some(entry)) => tell_entry(out, &entry)?,
         Ok(None) => out.extend(b"not due")?,
         Err(error) => tell_room(out, &error)?,
@@ -119,17 +106,14 @@ pub fn tell_maintain(
 }
 
 fn admin(
-    book: &mut Book,
+    modern: &mut ModernBook,
     session: u32,
     at: u64,
     command: &Command,
-) -> Result<Entry, AdminError<FullMark>>
-    requires { book.old.rules ≡ MODERN_RULES }
-    ensures { book.new.rules ≡ MODERN_RULES }
-{
+) -> Result<Entry, AdminError<FullMark>> {
     match *command {
-        Command::Reset { member } if session == 0 => reset_lawfully(book, at, member),
-        _ => book.admin(session, at, command),
+        Command::Reset { member } if session == 0 => reset_lawfully(modern, at, member),
+        _ => modern.book.admin(session, at, command),
     }
 }
 
@@ -141,16 +125,13 @@ fn put_refused(error: &AdminError<FullMark>, out: &mut Bytes) -> Result<(), NoMe
 }
 
 pub fn tell_command(
-    book: &mut Book,
+    modern: &mut ModernBook,
     session: u32,
     at: u64,
     command: &Command,
     out: &mut Bytes,
-) -> Result<bool, NoMemory>
-    requires { book.old.rules ≡ MODERN_RULES }
-    ensures { book.new.rules ≡ MODERN_RULES }
-{
-    match admin(book, session, at, command) {
+) -> Result<bool, NoMemory> {
+    match admin(modern, session, at, command) {
         Ok(entry) => tell_entry(out, &entry)?,
         Err(error) => put_refused(&error, out)?,
     }

@@ -1,8 +1,8 @@
 //! Rows of a Book: its calls, its journal and its page.
 
-use crate::held::Held;
+use crate::held::tell_held;
 use crate::paged::Paged;
-use check_lines::begin::{is_opening_line, resumed, started};
+use check_lines::begin::{FreshBook, ModernBook, is_opening_line, resumed, started};
 use check_lines::judging::{Teller, judge_lines};
 use check_lines::texts::{first_word, put_line, say};
 use jk_io::{Bytes, NoMemory};
@@ -13,20 +13,13 @@ use std::alloc::Global;
 struct BookRow {
     /// The lines of the opening.
     lines: Bytes,
-    book: Option<Held>,
+    book: Option<ModernBook>,
     pages: Paged,
 }
 
-fn held_from_start(alloc: Global, lines: &[u8]) -> Result<Option<Held>, NoMemory> {
+fn started_book(alloc: Global, lines: &[u8]) -> Result<Option<ModernBook>, NoMemory> {
     match started(alloc, lines)? {
-        Some(book) => Ok(Some(Held { book })),
-        None => Ok(None),
-    }
-}
-
-fn held_from_opening(alloc: Global, lines: &[u8]) -> Result<Option<Held>, NoMemory> {
-    match resumed(alloc, lines)? {
-        Some(book) => Ok(Some(Held { book })),
+        Some(FreshBook { book }) => Ok(Some(ModernBook { book })),
         None => Ok(None),
     }
 }
@@ -47,14 +40,14 @@ impl BookRow {
 
     /// Begins the Book. False where the lines are no opening.
     fn start(&mut self, alloc: Global, out: &mut Bytes) -> Result<bool, NoMemory> {
-        self.book = held_from_start(alloc, self.lines.as_slice())?;
+        self.book = started_book(alloc, self.lines.as_slice())?;
         out.extend(b"start")?;
         Ok(self.book.is_some())
     }
 
     /// Goes on with the Book. False where the lines are no opening.
     fn resume(&mut self, alloc: Global, out: &mut Bytes) -> Result<bool, NoMemory> {
-        self.book = held_from_opening(alloc, self.lines.as_slice())?;
+        self.book = resumed(alloc, self.lines.as_slice())?;
         out.extend(b"resume")?;
         Ok(self.book.is_some())
     }
@@ -62,9 +55,9 @@ impl BookRow {
     /// Puts the Book as it is on the page.
     fn add_part(&mut self, alloc: Global, type_: &str) -> Result<bool, NoMemory> {
         match &self.book {
-            Some(held) => self
+            Some(modern) => self
                 .pages
-                .add(alloc, type_, self.lines.as_slice(), &held.book),
+                .add(alloc, type_, self.lines.as_slice(), &modern.book),
             None => Ok(false),
         }
     }
@@ -91,7 +84,7 @@ impl BookRow {
         out: &mut Bytes,
     ) -> Result<bool, NoMemory> {
         match &mut self.book {
-            Some(held) => held.tell(alloc, asked, self.lines.as_slice(), out),
+            Some(modern) => tell_held(alloc, modern, asked, self.lines.as_slice(), out),
             None => Ok(false),
         }
     }

@@ -1,12 +1,9 @@
 //! Rows of desks: of one thread over a Book that it owns, and over a Site behind its lock whose journal is cut.
-ghost use Rattle.std.specs.Prelude.{◌≡◌, []};
-ghost use Rattle.lb_model.specs.declared.segment.TheConstants.{MODERN_RULES};
 
 use crate::{plain, shared};
-use check_lines::begin::book_of_row;
+use check_lines::begin::{FreshBook, book_of_row};
 use check_lines::texts::{first_word, short};
 use jk_io::NoMemory;
-use lb_book::Book;
 use std::marker::Brand;
 use std::sync::Wait;
 use std::sync::ledger::Blank;
@@ -48,17 +45,15 @@ pub fn show_unread(row: &str, shown: &mut String) -> Result<u64, NoMemory> {
 fn judge_over<R: AllocGlobal + Wait>(
     rt: &R,
     over: Option<Over>,
-    book: Book,
+    fresh: FreshBook,
     row: &str,
     shown: &mut String,
-) -> Result<u64, NoMemory>
-    requires { (book.rules ≡ MODERN_RULES) × (book.added ≡ 0) × (book.entries ≡ []) }
-{
+) -> Result<u64, NoMemory> {
     match over {
-        Some(Over::Book) => plain::judge(rt.alloc(), book, row, shown),
+        Some(Over::Book) => plain::judge(rt.alloc(), fresh, row, shown),
         Some(Over::Site(cut_at)) => {
             let row = row.as_bytes();
-            shared::judge::<Brand, R>(rt, Blank::new(1), book, cut_at, row, shown)
+            shared::judge::<Brand, R>(rt, Blank::new(1), fresh, cut_at, row, shown)
         }
         None => show_unread(row, shown),
     }
@@ -70,7 +65,7 @@ pub fn judge<R: AllocGlobal + Wait>(
     shown: &mut String,
 ) -> Result<u64, NoMemory> {
     match book_of_row(rt.alloc(), row)? {
-        Some(book) => judge_over(rt, over_of(row), book, row, shown),
+        Some(fresh) => judge_over(rt, over_of(row), fresh, row, shown),
         None => show_unread(row, shown),
     }
 }

@@ -1,5 +1,5 @@
 //! The tickets of a Site that are out.
-ghost use Rattle.std.specs.Prelude.{◌≡◌, ◌<◌, All, IfSome, IfErr, length};
+ghost use Rattle.std.specs.Prelude.{◌≡◌, ◌<◌, length};
 
 use lb_model::{Kind, Outcome};
 use lb_shared::{Site, SiteLease, SiteName};
@@ -10,13 +10,23 @@ const GONE: Outcome = Outcome {
     bytes: 0,
 };
 
+/// A Site of one Book, and a share of its ledger.
+#[derive(Drop)]
+pub struct OneSite<L: SiteName> {
+    pub site: Site<L>,
+    pub share: Share<L>,
+    pub ghost one: { length site ≡ 1 },
+    pub ghost part: { 0 < share.parts },
+}
+
+/// A ticket of a Site of one Book.
+pub struct OneLease<L> {
+    pub lease: SiteLease<L>,
+    pub ghost own: { lease.lb ≡ 0 },
+}
+
 /// Keeps a lease. Where there is no room for it, it comes back.
-pub fn keep<L>(leases: &mut Vec<SiteLease<L>>, lease: SiteLease<L>) -> Result<(), SiteLease<L>>
-    requires ours { All (λ l. l.lb ≡ 0) leases.old.items }
-    requires own { lease.lb ≡ 0 }
-    ensures ours { All (λ l. l.lb ≡ 0) leases.new.items }
-    ensures own { IfErr result (λ l. l.lb ≡ 0) }
-{
+pub fn keep<L>(leases: &mut Vec<OneLease<L>>, lease: OneLease<L>) -> Result<(), OneLease<L>> {
     match leases.push(lease) {
         Ok(()) => Ok(()),
         Err(refused) => Err(refused.value),
@@ -24,39 +34,22 @@ pub fn keep<L>(leases: &mut Vec<SiteLease<L>>, lease: SiteLease<L>) -> Result<()
 }
 
 /// Takes out the lease of a ticket.
-pub fn take<L>(leases: &mut Vec<SiteLease<L>>, ticket: u64) -> Option<SiteLease<L>>
-    requires { All (λ l. l.lb ≡ 0) leases.old.items }
-    ensures ours { All (λ l. l.lb ≡ 0) leases.new.items }
-    ensures own { IfSome result (λ l. l.lb ≡ 0) }
-{
-    let place = leases.iter().position(|lease| lease.ticket() == ticket)?;
+pub fn take<L>(leases: &mut Vec<OneLease<L>>, ticket: u64) -> Option<OneLease<L>> {
+    let place = leases.iter().position(|one| one.lease.ticket() == ticket)?;
     Some(leases.remove(place))
 }
 
 /// Gives a lease back for a client that left.
-pub fn give_up<L: SiteName>(site: &mut Site<L>, share: &mut Share<L>, lease: SiteLease<L>)
-    requires own { lease.lb ≡ 0 }
-    requires one { length site.old ≡ 1 }
-    requires part { 0 < share.old.parts }
-    ensures one { length site.new ≡ 1 }
-    ensures part { 0 < share.new.parts }
-{
-    let _answer = site.give_back(0, 0, lease, GONE, share);
+pub fn give_up<L: SiteName>(over: &mut OneSite<L>, lease: OneLease<L>) {
+    let OneLease { lease } = lease;
+    let _answer = over.site.give_back(0, 0, lease, GONE, &mut over.share);
 }
 
 /// Gives all leases back.
-pub fn give_all_back<L: SiteName>(
-    site: &mut Site<L>,
-    share: &mut Share<L>,
-    leases: Vec<SiteLease<L>>,
-)
-    requires ours { All (λ l. l.lb ≡ 0) leases.items }
-    requires one { length site.old ≡ 1 }
-    requires part { 0 < share.old.parts }
-{
+pub fn give_all_back<L: SiteName>(over: &mut OneSite<L>, leases: Vec<OneLease<L>>) {
     let mut leases = leases;
     while let Some(lease) = leases.pop() {
-        give_up(site, share, lease);
+        give_up(over, lease);
     }
     leases.destroy_empty();
 }

@@ -1,17 +1,15 @@
 //! A desk of one thread.
-ghost use Rattle.std.specs.Prelude.{◌≡◌, ◌≤◌, None, length};
-ghost use Rattle.lb_model.specs.declared.segment.TheConstants.{MODERN_RULES};
-ghost use Rattle.lb_model.specs.declared.journal.TheConstants.{MOST_BYTES};
+ghost use Rattle.std.specs.Prelude.{◌≡◌, None, length};
 
 use crate::exchanged::{FRESH, tell_once, tell_view};
-use check_lines::begin::is_opening_line;
-use check_lines::calls::{call_of, command_of, outcome_of, tell_admin, tell_full};
+use check_lines::begin::{FreshBook, is_opening_line};
+use check_lines::calls::{FitOutcome, call_of, command_of, outcome_of, tell_admin, tell_full};
 use check_lines::judging::{Teller, judge_lines};
 use check_lines::texts::{first_word, say};
 use check_lines::{Once, change_and_look, one_exchange};
 use jk_io::{Bytes, NoMemory};
-use lb_book::{Book, BookList, Desk, PlainDesk};
-use lb_model::{AdminError, Command, Entry, FullMark, Outcome, RoomError, View};
+use lb_book::{BookList, Desk, PlainDesk};
+use lb_model::{AdminError, Command, Entry, FullMark, RoomError, View};
 use std::alloc::Global;
 
 /// A desk over one Book.
@@ -22,9 +20,8 @@ struct PlainRow {
     ghost anyone: { desk.caller ≡ None },
 }
 
-fn row_of(alloc: Global, book: Book) -> Result<PlainRow, NoMemory>
-    requires { book.rules ≡ MODERN_RULES }
-{
+fn row_of(alloc: Global, fresh: FreshBook) -> Result<PlainRow, NoMemory> {
+    let FreshBook { book } = fresh;
     let mut books = BookList::new(alloc);
     books.push(book)?;
     Ok(PlainRow {
@@ -58,18 +55,16 @@ impl PlainRow {
         &mut self,
         session: u32,
         at: u64,
-        outcome: Outcome,
+        fit: FitOutcome,
         out: &mut Bytes,
-    ) -> Result<bool, NoMemory>
-        requires { outcome.bytes ≤ MOST_BYTES }
-    {
-        let once = one_exchange(&mut self.desk, 0, session, at, &FRESH, outcome);
+    ) -> Result<bool, NoMemory> {
+        let once = one_exchange(&mut self.desk, 0, session, at, &FRESH, fit.outcome);
         put_once(&once, out)
     }
 
     fn exchange_as(&mut self, asked: &Entry, out: &mut Bytes) -> Result<bool, NoMemory> {
         match outcome_of(asked) {
-            Some(outcome) => self.exchange(asked.session, asked.at, outcome, out),
+            Some(fit) => self.exchange(asked.session, asked.at, fit, out),
             None => Ok(false),
         }
     }
@@ -126,8 +121,11 @@ impl Teller for PlainRow {
     }
 }
 
-pub fn judge(alloc: Global, book: Book, row: &str, shown: &mut String) -> Result<u64, NoMemory>
-    requires { book.rules ≡ MODERN_RULES }
-{
-    judge_lines(alloc, &mut row_of(alloc, book)?, row, shown)
+pub fn judge(
+    alloc: Global,
+    fresh: FreshBook,
+    row: &str,
+    shown: &mut String,
+) -> Result<u64, NoMemory> {
+    judge_lines(alloc, &mut row_of(alloc, fresh)?, row, shown)
 }

@@ -1,20 +1,18 @@
 //! A desk over a Site behind its lock, whose journal is cut.
-ghost use Rattle.std.specs.Prelude.{◌≡◌, ◌<◌, ◌≤◌, ◌∷◌, [], None, length};
-ghost use Rattle.lb_book.specs.Journal.{next_number};
-ghost use Rattle.lb_model.specs.Journal.{members};
-ghost use Rattle.lb_model.specs.declared.segment.TheConstants.{MODERN_RULES};
-ghost use Rattle.lb_model.specs.declared.journal.TheConstants.{MOST_BYTES};
+ghost use Rattle.std.specs.Prelude.{◌≡◌, ◌<◌, ◌∷◌, [], None, length};
+ghost use Rattle.desk_checks.specs.Openings.{OpensSite};
 
 use crate::exchanged::{FRESH, tell_once, tell_view};
+use crate::leases::OneSite;
 use crate::sites::site_of;
-use check_lines::begin::is_opening_line;
-use check_lines::calls::{call_of, outcome_of};
+use check_lines::begin::{FreshBook, is_opening_line};
+use check_lines::calls::{FitOutcome, call_of, outcome_of};
 use check_lines::judging::{Teller, judge_line, judge_lines};
 use check_lines::one_exchange;
 use check_lines::texts::{first_word, put_number, say};
 use jk_io::{Bytes, NoMemory, NumberList};
-use lb_book::{Book, Desk};
-use lb_model::{Entry, Outcome, Segment};
+use lb_book::Desk;
+use lb_model::{Entry, Segment};
 use lb_shared::{KeptList, Leaving, MemShelf, SharedDesk, SharedSite, SiteName};
 use std::alloc::Global;
 use std::sync::Wait;
@@ -34,19 +32,17 @@ impl<'s, 'r, L: SiteName, R: Wait> SharedRow<'s, 'r, L, R> {
         &mut self,
         session: u32,
         at: u64,
-        outcome: Outcome,
+        fit: FitOutcome,
         out: &mut Bytes,
-    ) -> Result<bool, NoMemory>
-        requires { outcome.bytes ≤ MOST_BYTES }
-    {
-        let once = one_exchange(&mut self.desk, 0, session, at, &FRESH, outcome);
+    ) -> Result<bool, NoMemory> {
+        let once = one_exchange(&mut self.desk, 0, session, at, &FRESH, fit.outcome);
         tell_once(&once, out)?;
         Ok(true)
     }
 
     fn exchange_as(&mut self, asked: &Entry, out: &mut Bytes) -> Result<bool, NoMemory> {
         match outcome_of(asked) {
-            Some(outcome) => self.exchange(asked.session, asked.at, outcome, out),
+            Some(fit) => self.exchange(asked.session, asked.at, fit, out),
             None => Ok(false),
         }
     }
@@ -154,46 +150,23 @@ fn judge_desk<'s, 'r, L: SiteName, R: Wait>(
     )
 }
 
-fn judge_at<L: SiteName, R: Wait>(
-    alloc: Global,
-    site: &SharedSite<'_, L, R>,
-    share: Share<L>,
-    row: &str,
-    shown: &mut String,
-) -> Result<u64, NoMemory>
-    requires one { length L.sizes ≡ 1 }
-    requires part { 0 < share.parts }
-    requires amount { share.amount ≡ 0 }
-{
-    let (lines, left) = row.split_once("\nleft").unwrap_or((row, ""));
-    judge_desk(
-        alloc,
-        row_over(alloc, site, share),
-        lines,
-        left.trim_end(),
-        shown,
-    )
-}
-
 /// Judges a row: its lines over a desk, and the line `left` over what the desk leaves.
 pub fn judge<L: SiteName, R: AllocGlobal + Wait>(
     rt: &R,
     blank: Blank,
-    book: Book,
+    fresh: FreshBook,
     cut_at: u32,
     row: &[u8],
     shown: &mut String,
 ) -> Result<u64, NoMemory>
-    requires name { blank.name ≡ L.name }
-    requires parts { (blank.parts ≡ L.parts) × (0 < L.parts) }
-    requires sizes { members book.opening ∷ [] ≡ L.sizes }
-    requires firsts { next_number book ∷ [] ≡ L.firsts }
-    requires starts { book.opening ∷ [] ≡ L.starts }
-    requires fresh { (book.rules ≡ MODERN_RULES) × (book.added ≡ 0) × (book.entries ≡ []) }
+    requires opens { OpensSite L.name L.parts L.sizes L.firsts blank fresh.book }
+    requires starts { fresh.book.opening ∷ [] ≡ L.starts }
     requires cuts { cut_at ≡ L.cut_at }
 {
-    let (site, share) = site_of::<L>(rt.alloc(), blank, book)?;
+    let OneSite { site, share } = site_of::<L>(rt.alloc(), blank, fresh)?;
     let site = SharedSite::new(rt, rt.alloc(), site, cut_at)?;
+    let asked = row_over(rt.alloc(), &site, share);
     let row = str::from_utf8(row).unwrap_or("");
-    judge_at(rt.alloc(), &site, share, row, shown)
+    let (lines, left) = row.split_once("\nleft").unwrap_or((row, ""));
+    judge_desk(rt.alloc(), asked, lines, left.trim_end(), shown)
 }

@@ -1,29 +1,23 @@
 //! A row over a Site. The tickets that its selects made are held here, and come back by their number.
-ghost use Rattle.std.specs.Prelude.{◌≡◌, ◌<◌, All, IfSome, length};
 
-use crate::leases::{give_all_back, give_up, keep, take};
+use crate::leases::{OneLease, OneSite, give_all_back, give_up, keep, take};
 use check_lines::begin::is_opening_line;
-use check_lines::calls::{asked_call, outcome_of, tell_admin, tell_entry, tell_stray};
+use check_lines::calls::{FitOutcome, asked_call, outcome_of, tell_admin, tell_entry, tell_stray};
 use check_lines::judging::Teller;
 use check_lines::texts::{first_word, put_number, say};
 use jk_io::{Bytes, NoMemory, NumberList};
-use lb_model::{AdminError, Ask, Call, Command, Entry, Outcome, RoomError, View};
+use lb_model::{AdminError, Ask, Call, Command, Entry, RoomError, View};
 use lb_shared::{
-    KeptList, MemShelf, Site, SiteLease, SiteMark, SiteName, SitePicked, SiteReceipt, SiteStray,
+    KeptList, MemShelf, SiteLease, SiteMark, SiteName, SitePicked, SiteReceipt, SiteStray,
 };
 use play_script::put_rows;
 use std::alloc::Global;
-use std::sync::ledger::Share;
 
 /// A Site of one Book, with the tickets that are out.
 pub struct SiteRow<L: SiteName> {
-    site: Site<L>,
-    share: Share<L>,
-    leases: Vec<SiteLease<L>>,
+    over: OneSite<L>,
+    leases: Vec<OneLease<L>>,
     shelf: MemShelf,
-    ghost one: { length site ≡ 1 },
-    ghost part: { 0 < share.parts },
-    ghost ours: { All (λ lease. lease.lb ≡ 0) leases.items },
 }
 
 fn tell_receipt<L>(receipt: &SiteReceipt<L>, out: &mut Bytes) -> Result<(), NoMemory> {
@@ -93,18 +87,13 @@ fn put_last(shelf: &MemShelf, out: &mut Bytes) -> Result<bool, NoMemory> {
 }
 
 impl<L: SiteName> SiteRow<L> {
-    ghost use Rattle.std.specs.Prelude.{◌≡◌, ◌<◌, ◌≤◌, IfSome, length};
+    ghost use Rattle.std.specs.Prelude.{◌≡◌, IfSome};
     ghost use Rattle.lb_book.specs.ToldBooks.{IsNoneDue};
     ghost use Rattle.lb_shared.specs.Sites.{At};
-    ghost use Rattle.lb_model.specs.declared.journal.TheConstants.{MOST_BYTES};
 
-    pub fn new(alloc: Global, site: Site<L>, share: Share<L>) -> SiteRow<L>
-        requires one { length site ≡ 1 }
-        requires part { 0 < share.parts }
-    {
+    pub fn new(alloc: Global, over: OneSite<L>) -> SiteRow<L> {
         SiteRow {
-            site,
-            share,
+            over,
             leases: Vec::new(alloc),
             shelf: MemShelf::new(KeptList::new(alloc), NumberList::new(alloc)),
         }
@@ -113,21 +102,18 @@ impl<L: SiteName> SiteRow<L> {
     /// Gives the tickets back that are out.
     pub fn end(self) {
         let SiteRow {
-            mut site,
-            mut share,
+            mut over,
             leases,
             shelf: _,
         } = self;
-        give_all_back(&mut site, &mut share, leases);
+        give_all_back(&mut over, leases);
     }
 
-    fn keep(&mut self, lease: SiteLease<L>) -> Result<(), NoMemory>
-        requires { lease.lb ≡ 0 }
-    {
+    fn keep(&mut self, lease: OneLease<L>) -> Result<(), NoMemory> {
         match keep(&mut self.leases, lease) {
             Ok(()) => Ok(()),
             Err(lease) => {
-                give_up(&mut self.site, &mut self.share, lease);
+                give_up(&mut self.over, lease);
                 Err(NoMemory)
             }
         }
@@ -138,7 +124,7 @@ impl<L: SiteName> SiteRow<L> {
         requires { IfSome lease (λ l. l.lb ≡ 0) }
     {
         match lease {
-            Some(lease) => self.keep(lease),
+            Some(lease) => self.keep(OneLease { lease }),
             None => Ok(()),
         }
     }
@@ -151,9 +137,13 @@ impl<L: SiteName> SiteRow<L> {
         ask: &Ask,
         out: &mut Bytes,
     ) -> Result<bool, NoMemory>
-        requires { At self.old.site 0 (λ b. IsNoneDue b at) }
+        requires { At self.old.over.site 0 (λ b. IsNoneDue b at) }
     {
-        match self.site.select(0, session, at, ask, &mut self.share) {
+        match self
+            .over
+            .site
+            .select(0, session, at, ask, &mut self.over.share)
+        {
             Ok(SitePicked { receipt, lease }) => {
                 self.hold(lease)?;
                 tell_receipt(&receipt, out)?;
@@ -171,9 +161,12 @@ impl<L: SiteName> SiteRow<L> {
         command: &Command,
         out: &mut Bytes,
     ) -> Result<bool, NoMemory>
-        requires { At self.old.site 0 (λ b. IsNoneDue b at) }
+        requires { At self.old.over.site 0 (λ b. IsNoneDue b at) }
     {
-        let done = self.site.admin(0, session, at, command, &mut self.share);
+        let done = self
+            .over
+            .site
+            .admin(0, session, at, command, &mut self.over.share);
         tell_commanded(&done, out)
     }
 
@@ -181,16 +174,18 @@ impl<L: SiteName> SiteRow<L> {
     fn give_back(
         &mut self,
         asked: &Entry,
-        lease: SiteLease<L>,
-        outcome: Outcome,
+        lease: OneLease<L>,
+        fit: FitOutcome,
         out: &mut Bytes,
-    ) -> Result<bool, NoMemory>
-        requires own { lease.lb ≡ 0 }
-        requires bytes { outcome.bytes ≤ MOST_BYTES }
-    {
-        let back = self
-            .site
-            .give_back(asked.session, asked.at, lease, outcome, &mut self.share);
+    ) -> Result<bool, NoMemory> {
+        let OneLease { lease } = lease;
+        let back = self.over.site.give_back(
+            asked.session,
+            asked.at,
+            lease,
+            fit.outcome,
+            &mut self.over.share,
+        );
         tell_returned(&back, out)
     }
 
@@ -198,20 +193,18 @@ impl<L: SiteName> SiteRow<L> {
         &mut self,
         asked: &Entry,
         ticket: u64,
-        outcome: Outcome,
+        fit: FitOutcome,
         out: &mut Bytes,
-    ) -> Result<bool, NoMemory>
-        requires { outcome.bytes ≤ MOST_BYTES }
-    {
+    ) -> Result<bool, NoMemory> {
         match take(&mut self.leases, ticket) {
-            Some(lease) => self.give_back(asked, lease, outcome, out),
+            Some(lease) => self.give_back(asked, lease, fit, out),
             None => Ok(false),
         }
     }
 
     fn returned(&mut self, asked: &Entry, ticket: u64, out: &mut Bytes) -> Result<bool, NoMemory> {
         match outcome_of(asked) {
-            Some(outcome) => self.return_ticket(asked, ticket, outcome, out),
+            Some(fit) => self.return_ticket(asked, ticket, fit, out),
             None => Ok(false),
         }
     }
@@ -219,13 +212,16 @@ impl<L: SiteName> SiteRow<L> {
     /// Does a maintenance if due.
     #[tactic(auto, using(crate::proofs::SiteFacts::adds_same))]
     fn maintain(&mut self, session: u32, at: u64, out: &mut Bytes) -> Result<bool, NoMemory> {
-        let done = self.site.maintain_if_due(0, session, at, &mut self.share);
+        let done = self
+            .over
+            .site
+            .maintain_if_due(0, session, at, &mut self.over.share);
         tell_maintained(&done, out)
     }
 
     /// Asks for a choice or a command where no maintenance is due.
     fn call_at_once(&mut self, asked: &Entry, out: &mut Bytes) -> Result<bool, NoMemory>
-        requires { At self.old.site 0 (λ b. IsNoneDue b asked.now.at) }
+        requires { At self.old.over.site 0 (λ b. IsNoneDue b asked.now.at) }
     {
         match &asked.call {
             Call::Select(ask) => self.select(asked.session, asked.at, ask, out),
@@ -238,8 +234,9 @@ impl<L: SiteName> SiteRow<L> {
     #[tactic(auto, using(crate::proofs::SiteFacts::adds_same))]
     fn hold_for(&mut self, asked: &Entry, out: &mut Bytes) -> Result<bool, NoMemory> {
         let due = self
+            .over
             .site
-            .maintain_if_due(0, asked.session, asked.at, &mut self.share);
+            .maintain_if_due(0, asked.session, asked.at, &mut self.over.share);
         match due {
             Ok(None) => self.call_at_once(asked, out),
             Ok(Some(_)) => Ok(false),
@@ -272,7 +269,7 @@ impl<L: SiteName> SiteRow<L> {
 
     /// Cuts the journal and puts the segment on the shelf.
     fn shelve(&mut self) -> Result<(), NoMemory> {
-        match self.site.cut(0)?.keep_in(&mut self.shelf) {
+        match self.over.site.cut(0)?.keep_in(&mut self.shelf) {
             Ok(()) => Ok(()),
             Err(_) => Err(NoMemory),
         }
@@ -284,7 +281,7 @@ impl<L: SiteName> SiteRow<L> {
     }
 
     fn show(&self, word: &str, out: &mut Bytes) -> Result<bool, NoMemory> {
-        put_view(self.site.view(0)?.view(), word, out)
+        put_view(self.over.site.view(0)?.view(), word, out)
     }
 }
 
@@ -297,7 +294,7 @@ impl<L: SiteName> Teller for SiteRow<L> {
             ("e" | "no", _) => self.call_asked(alloc, asked, out),
             ("cut", _) => self.cut(out),
             ("kept", _) => {
-                put_number(out, "", self.site.kept(0))?;
+                put_number(out, "", self.over.site.kept(0))?;
                 Ok(true)
             }
             (word, _) => self.show(word, out),

@@ -8,4 +8,4 @@ abbrev pub ghosts-judge-L-Ledger : goal.ghosts-judge-L-Ledger
 ghosts-judge-L-Ledger g a = record { name = a.blank.name; parts = a.blank.parts }
 
 abbrev pub ghosts-judge-L-SiteName : goal.ghosts-judge-L-SiteName
-ghosts-judge-L-SiteName g a = record { starts = a.book.opening ∷ []; sizes = members a.book.opening ∷ []; firsts = next_number a.book ∷ []; cut_at = a.cut_at }
+ghosts-judge-L-SiteName g a = record { starts = a.fresh.book.opening ∷ []; sizes = members a.fresh.book.opening ∷ []; firsts = next_number a.fresh.book ∷ []; cut_at = a.cut_at }
