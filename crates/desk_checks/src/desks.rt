@@ -4,9 +4,9 @@ use crate::{plain, shared};
 use check_lines::begin::{FreshBook, book_of_row};
 use check_lines::texts::{first_word, short};
 use jk_io::NoMemory;
+use lb_shared::SiteBlank;
 use std::marker::Brand;
 use std::sync::Wait;
-use std::sync::ledger::Blank;
 
 /// What a row's desk stands over.
 #[derive(Clone, Copy)]
@@ -53,7 +53,7 @@ fn judge_over<R: AllocGlobal + Wait>(
         Some(Over::Book) => plain::judge(rt.alloc(), fresh, row, shown),
         Some(Over::Site(cut_at)) => {
             let row = row.as_bytes();
-            shared::judge::<Brand, R>(rt, Blank::new(1), fresh, cut_at, row, shown)
+            shared::judge::<Brand, R>(rt, SiteBlank::new(1), fresh, cut_at, row, shown)
         }
         None => show_unread(row, shown),
     }

@@ -13,10 +13,11 @@ use check_lines::texts::{first_word, put_number, say};
 use jk_io::{Bytes, NoMemory, NumberList};
 use lb_book::Desk;
 use lb_model::{Entry, Segment};
-use lb_shared::{KeptList, Leaving, MemShelf, SharedDesk, SharedSite, SiteName};
+use lb_shared::{
+    DeskShare, KeptList, Leaving, MemShelf, SharedDesk, SharedSite, SiteBlank, SiteName,
+};
 use std::alloc::Global;
 use std::sync::Wait;
-use std::sync::ledger::{Blank, Share};
 
 /// A desk over a Site of one Book, which holds no ticket between two lines.
 #[derive(Drop)]
@@ -106,7 +107,7 @@ impl<'l, L: SiteName> Teller for LeftRow<'l, L> {
 fn row_over<'s, 'r, L: SiteName, R: Wait>(
     alloc: Global,
     site: &'s SharedSite<'r, L, R>,
-    share: Share<L>,
+    share: DeskShare<L>,
 ) -> SharedRow<'s, 'r, L, R>
     requires one { length L.sizes ≡ 1 }
     requires part { 0 < share.parts }
@@ -153,18 +154,20 @@ fn judge_desk<'s, 'r, L: SiteName, R: Wait>(
 /// Judges a row: its lines over a desk, and the line `left` over what the desk leaves.
 pub fn judge<L: SiteName, R: AllocGlobal + Wait>(
     rt: &R,
-    blank: Blank,
+    blank: SiteBlank,
     fresh: FreshBook,
     cut_at: u32,
     row: &[u8],
     shown: &mut String,
 ) -> Result<u64, NoMemory>
-    requires opens { OpensSite L.name L.parts L.sizes L.firsts blank fresh.book }
+    requires opens { OpensSite L.name L.parts L.sizes L.firsts blank.entries fresh.book }
+    requires counts { (blank.cuts.name ≡ L.cuts_name) × (blank.cuts.parts ≡ L.parts) }
     requires starts { fresh.book.opening ∷ [] ≡ L.starts }
     requires cuts { cut_at ≡ L.cut_at }
 {
-    let OneSite { site, share } = site_of::<L>(rt.alloc(), blank, fresh)?;
-    let site = SharedSite::new(rt, rt.alloc(), site, cut_at)?;
+    let SiteBlank { entries, cuts } = blank;
+    let OneSite { site, share } = site_of::<L>(rt.alloc(), entries, fresh)?;
+    let (site, share) = SharedSite::new(rt, rt.alloc(), site, share, cuts, cut_at)?;
     let asked = row_over(rt.alloc(), &site, share);
     let row = str::from_utf8(row).unwrap_or("");
     let (lines, left) = row.split_once("\nleft").unwrap_or((row, ""));

@@ -5,7 +5,7 @@ ghost use Rattle.std.specs.List.Sorted.{IsPermutation};
 ghost use Rattle.lb_book.specs.Journal.{Journal};
 ghost use Rattle.lb_book.specs.ToldBooks.{sizes_of};
 ghost use Rattle.lb_shared.specs.Histories.{starts_of};
-ghost use Rattle.lb_shared.specs.Sites.{AreSited, added_in, nexts_of};
+ghost use Rattle.lb_shared.specs.Sites.{AreSited, IsBlankOf, added_in, nexts_of};
 ghost use Rattle.lb_closing.specs.CloseErrors.{IsCloseError};
 ghost use Rattle.drill.specs.Counts.{CountsDrill};
 ghost use Rattle.drill.specs.Drills.{IsDrilled};
@@ -27,12 +27,11 @@ use journal_text::write_segment;
 use lb_book::{Book, BookList, Segment};
 use lb_closing::{CloseError, Closed, close_desks};
 use lb_passes::{PassBook, close_passes};
-use lb_shared::{MemShelf, SharedSite, Site, SiteName};
+use lb_shared::{DeskShare, MemShelf, SharedSite, Site, SiteBlank, SiteName};
 use std::alloc::Global;
 use std::marker::Brand;
 use std::slice::from_ref;
 use std::sync::Wait;
-use std::sync::ledger::{Blank, Share};
 use std::thread::Threads;
 
 /// A drill's Book, the bytes of all replies' bodies, and how many receipts were compared with the Book's journal.
@@ -70,12 +69,12 @@ fn one_book(alloc: Global, book: Book) -> Result<BookList, NoMemory>
 fn drill_in<L: SiteName + Send + Sync, R: Threads + Wait + Sync>(
     rt: &R,
     alloc: Global,
-    blank: Blank,
+    blank: SiteBlank,
     site: &DrillSite,
     plan: Plan,
     books: BookList,
 ) -> Result<Compared, CloseError<L>>
-    requires name { (blank.name ≡ L.name) × (blank.parts ≡ L.parts) }
+    requires name { IsBlankOf L.name L.cuts_name L.parts blank }
     requires parts { L.parts ≡ plan.threads }
     requires books { (book : Journal) × (books ≡ book ∷ []) × IsStarted book }
     requires sizes { sizes_of books ≡ L.sizes }
@@ -88,8 +87,9 @@ fn drill_in<L: SiteName + Send + Sync, R: Threads + Wait + Sync>(
     ensures receipts { IfOk result (λ c. c.receipts ≡ added_in c.books) }
     ensures cause { IfErr result (IsCloseError IsDiscordFound) }
 {
-    let (opened, share) = Site::<L>::open(blank, books);
-    let shared = SharedSite::new(rt, alloc, opened, 0)?;
+    let SiteBlank { entries, cuts } = blank;
+    let (opened, share) = Site::<L>::open(entries, books);
+    let (shared, share) = SharedSite::new(rt, alloc, opened, share, cuts, 0)?;
     drill_over(rt, alloc, site, plan, shared, share)
 }
 
@@ -100,7 +100,7 @@ fn drill_over<'r, L: SiteName + Send + Sync, R: Threads + Wait + Sync>(
     site: &DrillSite,
     plan: Plan,
     shared: SharedSite<'r, L, R>,
-    share: Share<L>,
+    share: DeskShare<L>,
 ) -> Result<Compared, CloseError<L>>
     requires parts { (share.parts ≡ plan.threads) × (L.parts ≡ plan.threads) }
     requires amount { share.amount ≡ 0 }
@@ -242,7 +242,7 @@ fn drilled_book<R: Threads + Wait + Sync>(
     ensures cause { IfErr result (IsDrillError plan.seed plan.threads plan.requests) }
 {
     let books = one_book(alloc, start_book(alloc)?)?;
-    let blank = Blank::new(u64::from(plan.threads));
+    let blank = SiteBlank::new(u64::from(plan.threads));
     match drill_in::<Brand, R>(rt, alloc, blank, site, plan, books) {
         Ok(compared) => whole(compared),
         Err(CloseError::Differs(discord)) => Err(DrillError::Differs(discord)),

@@ -11,10 +11,9 @@ use crate::site::DrillSite;
 use crate::thread::serve_thread;
 use jk_io::{NoMemory, NumberList};
 use lb_closing::LeavingList;
-use lb_shared::{KeptList, Leaving, MemShelf, SharedDesk, SharedSite, SiteName};
+use lb_shared::{DeskShare, KeptList, Leaving, MemShelf, SharedDesk, SharedSite, SiteName};
 use std::alloc::Global;
 use std::sync::Wait;
-use std::sync::ledger::Share;
 use std::thread::{self, Threads};
 
 /// A thread's desk, and the bytes of its replies' bodies once all its requests were made.
@@ -35,7 +34,7 @@ pub(crate) struct ThreadsLeft<L: SiteName> {
 fn slot_of<'s, 'r, L: SiteName, R>(
     alloc: Global,
     shared: &'s SharedSite<'r, L, R>,
-    share: Share<L>,
+    share: DeskShare<L>,
 ) -> Slot<'s, 'r, L, R>
     requires part { share.parts ≡ 1 }
     requires amount { share.amount ≡ 0 }
@@ -54,7 +53,7 @@ fn put_slot<'s, 'r, L: SiteName, R>(
     alloc: Global,
     slots: &mut Vec<Slot<'s, 'r, L, R>>,
     shared: &'s SharedSite<'r, L, R>,
-    share: Share<L>,
+    share: DeskShare<L>,
 )
     requires part { share.parts ≡ 1 }
     requires amount { share.amount ≡ 0 }
@@ -73,7 +72,7 @@ fn fill_slots<'s, 'r, L: SiteName, R>(
     alloc: Global,
     slots: &mut Vec<Slot<'s, 'r, L, R>>,
     shared: &'s SharedSite<'r, L, R>,
-    share: &mut Share<L>,
+    share: &mut DeskShare<L>,
     threads: u32,
 )
     requires none { slots.old.items ≡ [] }
@@ -85,7 +84,7 @@ fn fill_slots<'s, 'r, L: SiteName, R>(
     ensures count { vec_len slots.new ≡ threads }
 {
     'slots: for _ in 0..threads {
-        put_slot(alloc, slots, shared, share.split_off(1, 0));
+        put_slot(alloc, slots, shared, share.split_off(1));
     }
 }
 
@@ -93,7 +92,7 @@ fn fill_slots<'s, 'r, L: SiteName, R>(
 fn slots_for<'s, 'r, L: SiteName, R>(
     alloc: Global,
     shared: &'s SharedSite<'r, L, R>,
-    share: Share<L>,
+    share: DeskShare<L>,
     threads: u32,
 ) -> Result<Vec<Slot<'s, 'r, L, R>>, NoMemory>
     requires parts { share.parts ≡ threads }
@@ -244,7 +243,7 @@ pub(crate) fn serve_all<'s, 'r, L: SiteName + Send + Sync, R: Threads + Wait + S
     site: &DrillSite,
     plan: Plan,
     shared: &'s SharedSite<'r, L, R>,
-    share: Share<L>,
+    share: DeskShare<L>,
 ) -> Result<ThreadsLeft<L>, NoMemory>
     requires parts { share.parts ≡ plan.threads }
     requires amount { share.amount ≡ 0 }

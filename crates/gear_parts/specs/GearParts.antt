@@ -8,7 +8,6 @@ use Rattle.conn_pool.specs.Idle.{counts}
 use Rattle.lb_shared.specs.Locks.{lock_of}
 use Rattle.lb_shared.specs.SharedDesks.{SharedState, shared_desk}
 use Rattle.lb_shared.specs.declared.shared_desk.Leaving.{Leaving}
-use Rattle.lb_shared.specs.declared.site.SiteName.{Ghosts as SiteGhosts}
 use Rattle.conn_pool.specs.Watched.{WatchedState}
 use Rattle.conn_pool.specs.declared.watch.Watch.{Watch}
 use Rattle.request_log.specs.LogStates.{LogState}
@@ -73,7 +72,7 @@ gear_in part = record {
 }
 
 -- A desk's leaving, beside its shelf: its receipts, how many it forgot, its share, whose amount is the count of entries, and its seat.
-pub record DeskLeaves {L S V : Type 0} {N : SiteGhosts L} (desk : SharedState S) (left : Leaving L V N) : Type 0 where
+pub record DeskLeaves {L S V : Type 0} (desk : SharedState S) (left : Leaving L V) : Type 0 where
   pub receipts_left : left.receipts ≡ desk.desk.receipts
   pub forgot : left.forgotten ≡ desk.forgotten
   pub counted : left.share.amount ≡ desk.desk.added

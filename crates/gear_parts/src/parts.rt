@@ -8,16 +8,15 @@ use crate::part::Part;
 use crate::world::Gear;
 use conn_pool::{Tape, WatchedReach};
 use jk_io::Dial;
-use lb_shared::{Leaving, SharedDesk, Shelf, SiteName};
+use lb_shared::{DeskShare, Leaving, SharedDesk, Shelf, SiteName};
 use request_log::Timed;
 use std::alloc::Global;
-use std::sync::ledger::Share;
 
 /// The part of a gear, with this part of the share. It takes no memory.
 pub fn part_of<'s, 'r, L: SiteName, D, G: Dial, T: Tape, K, S: Shelf, O: Timed, R>(
     alloc: Global,
     common: &Common<'s, 'r, L, G, R>,
-    share: Share<L>,
+    share: DeskShare<L>,
     gear: Gear<D, G, T, K, S, O>,
 ) -> Part<'s, 'r, L, D, WatchedReach<'s, 'r, G, T, R>, K, S, R, GearLog<'s, O>>
     requires part { share.parts ≡ 1 }
@@ -77,6 +76,7 @@ fn shelf_off<L: SiteName, S>(leaving: Leaving<L, S>) -> (S, Leaving<L, ()>)
     ensures receipts { (result.1.receipts ≡ leaving.receipts) × (result.1.forgotten ≡ leaving.forgotten) }
     ensures share { (result.1.share.amount ≡ leaving.share.amount) × (result.1.share.parts ≡ leaving.share.parts) }
     ensures seat { result.1.seat ≡ leaving.seat }
+    ensures cuts { (result.1.cuts.amount ≡ leaving.cuts.amount) × (result.1.cuts.parts ≡ leaving.cuts.parts) }
 {
     let Leaving {
         share,
@@ -84,6 +84,7 @@ fn shelf_off<L: SiteName, S>(leaving: Leaving<L, S>) -> (S, Leaving<L, ()>)
         forgotten,
         shelf,
         seat,
+        cuts,
     } = leaving;
     let rest = Leaving {
         share,
@@ -91,6 +92,7 @@ fn shelf_off<L: SiteName, S>(leaving: Leaving<L, S>) -> (S, Leaving<L, ()>)
         forgotten,
         shelf: (),
         seat,
+        cuts,
     };
     (shelf, rest)
 }

@@ -58,9 +58,10 @@ AreLegalFrom starts log = (lb : ℕ) (o : Opening) → slice_get starts lb ≡ S
 
 -- One list of entries, each with the number of the desk that added it and with its balancer, made these Books what they are.
 -- The balancers began with number 0 at the moment `at`. Each worker had a desk of another number, and of that number the list
--- has exactly what the worker's sessions were told, in order. It has no other entries: each has the number of one of these desks.
+-- has exactly what the worker's sessions were told, in order.
 -- Unless a session of the worker ended by a stray, each ticket that a Select of that number gave out came back by a later Return.
--- `steps` is the list with the cuts of journals between its entries. Each desk's cuts in it are just those of its worker's sessions, of
+-- `steps` is the list with the cuts of journals between its entries. It has no other steps: each has the number of one of these
+-- desks. Each desk's cuts in it are just those of its worker's sessions, of
 -- which `IsRun` says that the shelf was given their segments: each is the journal that the steps before its cut left of its balancer.
 -- What all steps left of each balancer is what its Book keeps.
 pub record IsOneList {C S Y : Type 0} (lbs : List Lb) (at : ℕ) (workers : List (List (Run C S Y))) (books : List Journal) : Type 0 where
@@ -73,9 +74,9 @@ pub record IsOneList {C S Y : Type 0} (lbs : List Lb) (at : ℕ) (workers : List
   pub apart : AreDistinct numbers
   pub told : AllZip (λ number runs. own_in number log ≡ noted (told_in runs)) numbers workers
   pub returned : AllZip (λ number runs. MetNoStray runs → AreReturned (own_in number log)) numbers workers
-  pub no_other : All (λ x. Contains numbers x.0) log
   pub steps : List (ℕ × Step)
   pub entries : log ≡ log_in steps
+  pub no_other : All (λ x. Contains numbers x.0) steps
   pub cuts : AllZip (λ number runs. own_cuts number steps ≡ cuts_in runs) numbers workers
   pub sited : All (λ runs. All (λ r. r.to.desk.seat.starts ≡ starts_of begun) runs) workers
   pub journals : AreJournalsAfter (starts_of begun) steps books
@@ -119,8 +120,8 @@ abbrev pub firsts_of : List Lb → List ℕ
 firsts_of lbs = map (λ lb. 0) lbs
 
 -- These are the Books of the balancers of a configuration, which began at this moment, at the end of a run whose workers had desks
--- at these seats. One history made the Books what they are; it has of each desk just the entries that the desk has seen as its
--- own, and no others.
+-- at these seats. One history made the Books what they are; it has of each desk just the entries and the cuts that the desk has seen
+-- as its own, and no others.
 pub record AreEnded (lbs : List Lb) (at : ℕ) (seats : List SeatNote) (books : List Journal) : Type 0 where
   pub sited : AreSited (sizes_of lbs) (firsts_of lbs) books
   pub begun : List Journal

@@ -6,7 +6,6 @@ use Rattle.jk_io.specs.declared.traits.surroundings.Peer.{Peer}
 use Rattle.client_session.specs.Requests.{Visit, visit}
 use Rattle.jk_io.specs.Doors.{DoorSide}
 use Rattle.lb_shared.specs.declared.shared_desk.Leaving.{Leaving}
-use Rattle.lb_shared.specs.declared.site.SiteName.{Ghosts as SiteGhosts}
 use Rattle.site_config.specs.declared.config.Config.{Config}
 use Rattle.site_mounts.specs.declared.rule.Rule.{Rule}
 use Rattle.jk_server.specs.Served.{IsServed}
@@ -69,7 +68,7 @@ abbrev pub WorkerIsOver : {L D G T K S W O C : Type 0} → Slot (Part L D (Watch
 WorkerIsOver slot = (slot.part.desk.desk.held ≡ []) × (is_some slot.part.reach.pooled.lent ≡ false)
 
 -- Of a slot its part's gear was left, what its desk left, and how its worker ended.
-pub record LeavesSlot {L D G T K S W O C V : Type 0} {N : SiteGhosts L} (slot : Slot (Part L D (WatchedState G T C) K S W (Option (LogState O))) L) (gear : Gear D G T K S O) (left : Leaving L V N) (end : WorkerEnd L) : Type 0 where
+pub record LeavesSlot {L D G T K S W O C V : Type 0} (slot : Slot (Part L D (WatchedState G T C) K S W (Option (LogState O))) L) (gear : Gear D G T K S O) (left : Leaving L V) (end : WorkerEnd L) : Type 0 where
   pub gear_left : gear ≡ gear_in slot.part
   pub desk : DeskLeaves slot.part.desk left
   pub ended : end ≡ slot.end

@@ -7,7 +7,6 @@ use Rattle.jk_io.specs.Doors.{DoorSide}
 use Rattle.lb_shared.specs.SharedDesks.{SharedState}
 use Rattle.gear_parts.specs.Gears.{GearSide}
 use Rattle.client_session.specs.Requests.{visit}
-use Rattle.lb_shared.specs.declared.site.SiteName.{Ghosts as SiteGhosts}
 use Rattle.request_log.specs.declared.format.Part.{Part as FormatPart}
 use Rattle.request_log.specs.LogStates.{LogState}
 use Rattle.gear_parts.specs.GearLogs.{new_log, sink_of}
@@ -33,7 +32,7 @@ BeginsSo lock format desk log = IsBeginning lock desk × (log ≡ new_log format
 
 -- Each gear was served by the worker of its place, and comes back. There is a desk at this lock and a part of the ledger for
 -- each gear.
-pub record IsRunOf {D G T K S O L C X V : Type 0} {N : SiteGhosts L} (told : RunTells D T K S O C X) (plan : SitePlan) (lock : TableId) (gears : List (Gear D G T K S O)) (ran : Ran L (Leaving L V N) (Gear D G T K S O)) : Type 0 where
+pub record IsRunOf {D G T K S O L C X V : Type 0} (told : RunTells D T K S O C X) (plan : SitePlan) (lock : TableId) (gears : List (Gear D G T K S O)) (ran : Ran L (Leaving L V) (Gear D G T K S O)) : Type 0 where
   pub served : AreServedGears (visit plan.cfg.now plan.map.now) told.link told.keeps plan.format.now 0 (gears_at told gears) (gears_at told ran.gears.items)
       (map (λ l. l.seat) ran.leaving.items) ran.workers.items
   pub here : All (λ l. l.seat.lock ≡ lock) ran.leaving.items

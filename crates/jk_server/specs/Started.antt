@@ -10,6 +10,7 @@ use Rattle.client_session.specs.Requests.{Visit, visit}
 use Rattle.exchange.specs.Requests.{sizes_of}
 use Rattle.site_config.specs.declared.balancer.Lb.{Lb}
 use Rattle.lb_shared.specs.Histories.{SeatNote, starts_of}
+use Rattle.lb_shared.specs.Sites.{IsBlankOf}
 use Rattle.site_reports.specs.Starts.{AreStarts}
 use Rattle.site_config.specs.declared.config.Config.{Config}
 use Rattle.site_mounts.specs.Sites.{stands_in}
@@ -33,11 +34,10 @@ use Rattle.jk_server.specs.declared.runs.parts.SitePlan.{SitePlan}
 abbrev pub pool_table : List Lb → List (List ℕ)
 pool_table lbs = map (λ lb. map (λ m. m.pool) lb.book.members) lbs
 
--- A Site that isn't open yet has this name, whose values are those of these balancers and of this cut, and a Book for each
--- balancer, which starts at the Site's moment.
-pub record IsNewSite (name parts : ℕ) (starts : List Opening) (sizes firsts : List ℕ) (cut_at cut : ℕ) (lbs : List Lb) (new : NewSite) : Type 0 where
-  pub named : new.blank.name ≡ name
-  pub whole : new.blank.parts ≡ parts
+-- A Site that isn't open yet has the ledgers of these names, whose values are those of these balancers and of this cut, and a Book
+-- for each balancer, which starts at the Site's moment.
+pub record IsNewSite (name cuts_name parts : ℕ) (starts : List Opening) (sizes firsts : List ℕ) (cut_at cut : ℕ) (lbs : List Lb) (new : NewSite) : Type 0 where
+  pub blank : IsBlankOf name cuts_name parts new.blank
   pub sized : sizes ≡ sizes_of lbs
   pub numbered : firsts ≡ firsts_of lbs
   pub cut_so : cut_at ≡ cut

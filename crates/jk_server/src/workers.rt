@@ -14,13 +14,12 @@ use crate::told_log::ToldLog;
 use conn_pool::{Tape, WatchedReach};
 use gear_parts::{Common, Gear, GearLog, Part, WorkerLog, gear_of, part_of};
 use jk_io::{Clock, Dial, Door, NoMemory, Reach};
-use lb_shared::{Leaving, Shelf, SiteName};
+use lb_shared::{DeskShare, Leaving, Shelf, SiteName};
 use request_log::Timed;
 use site_config::Config;
 use site_mounts::UriMap;
 use std::alloc::Global;
 use std::sync::Wait;
-use std::sync::ledger::Share;
 use std::thread::{self, Threads};
 use std::vec::IntoIter;
 
@@ -55,7 +54,7 @@ pub(crate) fn fill_slots<
 >(
     alloc: Global,
     common: &Common<'s, 'r, L, G, R>,
-    share: Share<L>,
+    share: DeskShare<L>,
     gears: Vec<Gear<D, G, T, K, S, O>>,
     slots: &mut Vec<GearSlot<'s, 'r, L, D, G, T, K, S, O, R>>,
 )
@@ -75,7 +74,7 @@ pub(crate) fn fill_slots<
 fn put_slots<'s, 'r, L: SiteName, D, G: Dial, T: Tape, K, S: Shelf, O: Timed, R>(
     alloc: Global,
     common: &Common<'s, 'r, L, G, R>,
-    share: &mut Share<L>,
+    share: &mut DeskShare<L>,
     gears: &mut IntoIter<Gear<D, G, T, K, S, O>>,
     slots: &mut Vec<GearSlot<'s, 'r, L, D, G, T, K, S, O, R>>,
 )
@@ -95,7 +94,7 @@ fn put_slots<'s, 'r, L: SiteName, D, G: Dial, T: Tape, K, S: Shelf, O: Timed, R>
 fn put_slot<'s, 'r, L: SiteName, D, G: Dial, T: Tape, K, S: Shelf, O: Timed, R>(
     alloc: Global,
     common: &Common<'s, 'r, L, G, R>,
-    share: &mut Share<L>,
+    share: &mut DeskShare<L>,
     gear: Gear<D, G, T, K, S, O>,
     slots: &mut Vec<GearSlot<'s, 'r, L, D, G, T, K, S, O, R>>,
 )
@@ -108,7 +107,7 @@ fn put_slot<'s, 'r, L: SiteName, D, G: Dial, T: Tape, K, S: Shelf, O: Timed, R>(
     ensures len { vec_len slots.new ≡ vec_len slots.old + 1 }
     ensures capacity { vec_capacity slots.new ≡ vec_capacity slots.old }
 {
-    let mine = share.split_off(1, 0);
+    let mine = share.split_off(1);
     slots.push_reserved(Slot {
         part: part_of(alloc, common, mine, gear),
         end: WorkerEnd::NoMemory,

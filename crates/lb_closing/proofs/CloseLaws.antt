@@ -5,7 +5,7 @@ use Rattle.std.specs.List.Sorted.{IsPermutation}
 use Rattle.lb_model.specs.declared.journal.Entry.{Entry}
 use Rattle.lb_book.specs.Journal.{Journal}
 use Rattle.lb_model.specs.declared.opening.Opening.{Opening}
-use Rattle.lb_shared.specs.Histories.{IsClosed, SeatNote}
+use Rattle.lb_shared.specs.Histories.{IsClosedAfter, SeatNote}
 use Rattle.lb_shared.specs.Sites.{AreSited, added_in}
 use Rattle.lb_closing.specs.CloseErrors.{IsCloseError}
 use Rattle.lb_closing.specs.Closings.{AreUncut, Differs, DiscordNote, IsDiscord, kept_from}
@@ -17,10 +17,10 @@ close_error P Q (close.Differs d) then is = then d is
 close_error P Q close.NoMemory then is = tt
 
 pub differs_from : (sizes firsts : List ℕ) (amount amount' : ℕ) (forgot : Bool) (All : Type 0) (items all : List (ℕ × Entry)) (books told : List Journal) (d : DiscordNote)
-    (starts : List Opening) (seats : List SeatNote)
-    → (forgot ≡ false → All) → items ≡ all → told ≡ books → AreSited sizes firsts books → amount ≡ added_in books → amount ≡ amount' → IsClosed starts seats books
-    → (forgot ≡ false) × AreUncut told × IsDiscord items (kept_from 0 told) d → All × (x : Differs sizes firsts amount' all d) × IsClosed starts seats x.books
-differs_from sizes firsts amount amount' forgot All items all books told d starts seats none noted same sited counted sum closed is = (
+    (starts : List Opening) (seats : List SeatNote) (count : ℕ)
+    → (forgot ≡ false → All) → items ≡ all → told ≡ books → AreSited sizes firsts books → amount ≡ added_in books → amount ≡ amount' → IsClosedAfter starts seats count books
+    → (forgot ≡ false) × AreUncut told × IsDiscord items (kept_from 0 told) d → All × (x : Differs sizes firsts amount' all d) × IsClosedAfter starts seats count x.books
+differs_from sizes firsts amount amount' forgot All items all books told d starts seats count none noted same sited counted sum closed is = (
   none is.0,
   record {
     books = books;
@@ -41,9 +41,9 @@ once_from forgot All items all books told none noted same is every uncut =
 
 -- The discord of the gathered receipts, told of those that the desks left.
 pub differs_left : (sizes firsts : List ℕ) (amount amount' : ℕ) (forgot : Bool) (All : Type 0) (items all : List (ℕ × Entry)) (d : DiscordNote)
-    (starts : List Opening) (seats : List SeatNote) → (forgot ≡ false → All) → items ≡ all → amount ≡ amount'
-    → (forgot ≡ false) × (x : Differs sizes firsts amount items d) × IsClosed starts seats x.books → All × (y : Differs sizes firsts amount' all d) × IsClosed starts seats y.books
-differs_left sizes firsts amount amount' forgot All items all d starts seats none noted sum is = (
+    (starts : List Opening) (seats : List SeatNote) (count : ℕ) → (forgot ≡ false → All) → items ≡ all → amount ≡ amount'
+    → (forgot ≡ false) × (x : Differs sizes firsts amount items d) × IsClosedAfter starts seats count x.books → All × (y : Differs sizes firsts amount' all d) × IsClosedAfter starts seats count y.books
+differs_left sizes firsts amount amount' forgot All items all d starts seats count none noted sum is = (
   none is.0,
   record {
     books = is.1.books;

@@ -1,6 +1,6 @@
--- A history has no entries of others, where the desks together have as many as the Books added.
+-- A history has no steps of others, where the desks together have as many entries as the Books added, and as many cuts as there were.
 use Rattle.std.proofs.Common.{◌≡◌, ◌≢◌, ℕ, zero, suc, ◌+◌, ◌<◌, ◌≤◌, Bool, true, false, cond, List, [], ◌∷◌, length, map, refl, sym, ap, ◌∙◌, subst, arith, eq-eqb, ne_eqb, sum_by, lt_of_not-le}
-use Rattle.std.specs.Prelude.{◌==◌, Some, slice_get}
+use Rattle.std.specs.Prelude.{◌==◌, ◌++◌, Option, None, Some, slice_get}
 use Rattle.std.specs.List.{All, Contains, filter}
 use Rattle.std.proofs.lemmas.List.{length-map}
 use Rattle.std.proofs.lemmas.List.Elements.{All-cons, All-head, All-nil, All-tail}
@@ -9,7 +9,7 @@ use native.Mathlib.Decide.{ℕ_discrete}
 use Rattle.lb_model.specs.declared.journal.Entry.{Entry}
 use Rattle.lb_model.specs.declared.opening.Opening.{Opening}
 use Rattle.lb_book.specs.Journal.{Journal}
-use Rattle.lb_shared.specs.Histories.{AreDistinct, IsClosed, SeatNote, entries_of, own_count, own_in}
+use Rattle.lb_shared.specs.Histories.{AreDistinct, IsClosedAfter, SeatNote, Step, all_cuts, cut_count, cut_here, cuts_from, cuts_seen, entered, entries_of, log_in, marked, own_count, own_cuts, own_in}
 use Rattle.lb_shared.specs.Sites.{added_in}
 use Rattle.lb_closing.specs.OneHistory.{IsOneHistory}
 
@@ -176,30 +176,83 @@ counted_by log (s ∷ seats) own =
       counted_by log seats (All-tail (λ (t : SeatNote). own_in t.number log ≡ own_in t.number t.seen) s seats own),
     )
 
+-- The cuts of a desk, by its number.
+own_here : (n m lb : ℕ) (before : List (ℕ × Step)) (e : Option Entry) (mine : List (ℕ × List (ℕ × Step))) (cuts : List (ℕ × ℕ))
+    → length mine ≡ with_number (λ (x : ℕ × ℕ). x.0) n cuts
+    → length (cut_here (m == n) lb before e ++ mine) ≡ with_number (λ (x : ℕ × ℕ). x.0) n (marked m lb e ++ cuts)
+own_here n m lb before None mine cuts same = cases (m == n)
+  where
+    cases : (b : Bool) → length (cut_here b lb before None ++ mine) ≡ length (cond b ((m, lb) ∷ filter (λ (y : ℕ × ℕ). y.0 == n) cuts) (filter (λ (y : ℕ × ℕ). y.0 == n) cuts))
+    cases true = omega (arith, same)
+    cases false = same
+own_here n m lb before (Some e) mine cuts same = cases (m == n)
+  where
+    cases : (b : Bool) → length (cut_here b lb before (Some e) ++ mine) ≡ with_number (λ (x : ℕ × ℕ). x.0) n cuts
+    cases true = same
+    cases false = same
+
+own_cuts_by : (n : ℕ) (before steps : List (ℕ × Step)) → length (cuts_from n before steps) ≡ with_number (λ (x : ℕ × ℕ). x.0) n (all_cuts steps)
+own_cuts_by n before [] = refl
+own_cuts_by n before (x ∷ steps) =
+    own_here n x.0 x.1.0 before x.1.1 (cuts_from n (before ++ x ∷ []) steps) (all_cuts steps) (own_cuts_by n (before ++ x ∷ []) steps)
+
+-- The own cuts that the desks have seen, by the desks' numbers.
+cuts_counted : (steps : List (ℕ × Step)) (seats : List SeatNote) → All (λ s. own_cuts s.number steps ≡ cuts_seen s) seats
+    → sum_by (λ s. cut_count s) seats ≡ with_one (λ (x : ℕ × ℕ). x.0) (map (λ s. s.number) seats) (all_cuts steps)
+cuts_counted steps [] own = refl
+cuts_counted steps (s ∷ seats) own =
+    omega (
+      arith,
+      sum_by-cons (λ (t : SeatNote). cut_count t) s seats,
+      sum_by-cons (λ n. with_number (λ (x : ℕ × ℕ). x.0) n (all_cuts steps)) s.number (map (λ t. t.number) seats),
+      ap (λ (cs : List (ℕ × List (ℕ × Step))). length cs) (All-head (λ (t : SeatNote). own_cuts t.number steps ≡ cuts_seen t) s seats own),
+      own_cuts_by s.number [] steps,
+      cuts_counted steps seats (All-tail (λ (t : SeatNote). own_cuts t.number steps ≡ cuts_seen t) s seats own),
+    )
+
+-- What holds of the desks of all entries and of all cuts, holds of those of all steps.
+one_step : (P : ℕ → Type 0) (n lb : ℕ) (e : Option Entry) (log : List (ℕ × (ℕ × Entry))) (cuts : List (ℕ × ℕ))
+    → All (λ x. P x.0) (entered n lb e ++ log) → All (λ x. P x.0) (marked n lb e ++ cuts) → P n × All (λ x. P x.0) log × All (λ x. P x.0) cuts
+one_step P n lb None log cuts entries marks = (All-head (λ (x : ℕ × ℕ). P x.0) (n, lb) cuts marks, entries, All-tail (λ (x : ℕ × ℕ). P x.0) (n, lb) cuts marks)
+one_step P n lb (Some e) log cuts entries marks =
+    (All-head (λ (x : ℕ × (ℕ × Entry)). P x.0) (n, (lb, e)) log entries, All-tail (λ (x : ℕ × (ℕ × Entry)). P x.0) (n, (lb, e)) log entries, marks)
+
+all_steps : (P : ℕ → Type 0) (steps : List (ℕ × Step)) → All (λ x. P x.0) (log_in steps) → All (λ x. P x.0) (all_cuts steps) → All (λ x. P x.0) steps
+all_steps P [] entries marks = All-nil (λ (x : ℕ × Step). P x.0)
+all_steps P (x ∷ steps) entries marks =
+    let one = one_step P x.0 x.1.0 x.1.1 (log_in steps) (all_cuts steps) entries marks in
+    All-cons (λ (y : ℕ × Step). P y.0) x steps one.0 (all_steps P steps one.1 one.2)
+
 -- No others.
-pub whole_by : (starts : List Opening) (seats : List SeatNote) (books : List Journal) → IsClosed starts seats books
-    → sum_by (λ s. own_count s) seats ≡ added_in books → IsOneHistory starts seats books
-whole_by starts seats books closed counted =
+pub whole_by : (starts : List Opening) (seats : List SeatNote) (count : ℕ) (books : List Journal) → IsClosedAfter starts seats count books
+    → sum_by (λ s. own_count s) seats ≡ added_in books → sum_by (λ s. cut_count s) seats ≡ count → IsOneHistory starts seats books
+whole_by starts seats count books after counted cuts =
+    let closed = after.closed in
     let all : added_in books ≡ length closed.log =
     added_by closed.log 0 books (λ lb b at. closed.history.added lb b at ∙ ap (λ (n : ℕ). length (entries_of n closed.log)) (sym (none_plus lb)))
     ∙ ap (λ (n : ℕ). with_one (λ (x : ℕ × (ℕ × Entry)). x.1.0) (up_from 0 n) closed.log) closed.history.count
     ∙ all_known (λ (x : ℕ × (ℕ × Entry)). x.1.0) (length starts) closed.log closed.history.known in
+    let numbers = map (λ (s : SeatNote). s.number) seats in
+    let entries : All (λ x. Contains numbers x.0) closed.log =
+    all_have (λ (x : ℕ × (ℕ × Entry)). x.0) numbers closed.log closed.apart (sym (counted_by closed.log seats closed.own) ∙ counted ∙ all) in
+    let marks : All (λ x. Contains numbers x.0) (all_cuts closed.steps) =
+    all_have (λ (x : ℕ × ℕ). x.0) numbers (all_cuts closed.steps) closed.apart (sym (cuts_counted closed.steps seats closed.cuts) ∙ cuts ∙ sym after.counted) in
     record {
       closed = closed;
       no_other =
-          all_have (λ (x : ℕ × (ℕ × Entry)). x.0) (map (λ s. s.number) seats) closed.log closed.apart
-          (sym (counted_by closed.log seats closed.own) ∙ counted ∙ all);
+          all_steps (λ n. Contains numbers n) closed.steps
+          (subst (λ (l : List (ℕ × (ℕ × Entry))). All (λ x. Contains numbers x.0) l) closed.entries entries) marks;
     }
 
 -- The shares of the desks count what their seats have seen as their own.
-pub amounts : {A : Type 0} (seat : A → SeatNote) (amount : A → ℕ) (leaving : List A) → ((l : A) → own_count (seat l) ≡ amount l)
-    → sum_by (λ s. own_count s) (map seat leaving) ≡ sum_by amount leaving
-amounts seat amount [] each = refl
-amounts seat amount (l ∷ leaving) each =
+pub amounts : {A : Type 0} (count : SeatNote → ℕ) (seat : A → SeatNote) (amount : A → ℕ) (leaving : List A) → ((l : A) → count (seat l) ≡ amount l)
+    → sum_by count (map seat leaving) ≡ sum_by amount leaving
+amounts count seat amount [] each = refl
+amounts count seat amount (l ∷ leaving) each =
     omega (
       arith,
-      sum_by-cons (λ (s : SeatNote). own_count s) (seat l) (map seat leaving),
+      sum_by-cons count (seat l) (map seat leaving),
       sum_by-cons amount l leaving,
       each l,
-      amounts seat amount leaving each,
+      amounts count seat amount leaving each,
     )

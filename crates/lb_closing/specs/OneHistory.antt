@@ -7,11 +7,11 @@ use Rattle.lb_book.specs.Journal.{Journal}
 use Rattle.lb_shared.specs.Histories.{IsClosed, SeatNote}
 use Rattle.lb_closing.specs.Closings.{Differs, DiscordNote}
 
--- One history of the Site made its Books what they are. Of each desk with one of these seats it has just the entries that the
--- desk has seen as its own, and it has no entry of anybody else.
+-- One history of the Site made its Books what they are. Of each desk with one of these seats it has just the entries and the cuts
+-- that the desk has seen as its own, and it has no step of anybody else.
 pub record IsOneHistory (starts : List Opening) (seats : List SeatNote) (books : List Journal) : Type 0 where
   pub closed : IsClosed starts seats books
-  pub no_other : All (λ x. Contains (map (λ s. s.number) seats) x.0) closed.log
+  pub no_other : All (λ x. Contains (map (λ s. s.number) seats) x.0) closed.steps
 
 -- A discord of the receipts with the Books that one history of the Site made what they are, which has as much of these desks, and
 -- of nobody else.

@@ -3,7 +3,7 @@ ghost use Rattle.std.specs.Prelude.{◌≡◌, ℕ, ◌<◌, ◌≤◌, List, fa
 ghost use Rattle.std.specs.List.{All, flat_map};
 ghost use Rattle.std.specs.List.Sorted.{IsPermutation};
 ghost use Rattle.lb_model.specs.declared.journal.Entry.{Entry};
-ghost use Rattle.lb_shared.specs.Histories.{IsClosed, IsSiteHistory};
+ghost use Rattle.lb_shared.specs.Histories.{IsClosed, IsClosedAfter, IsSiteHistory};
 ghost use Rattle.lb_shared.specs.Locks.{lock_of};
 ghost use Rattle.lb_shared.specs.Sites.{AreSited, added_in};
 ghost use Rattle.lb_closing.specs.CloseErrors.{IsCloseError};
@@ -17,7 +17,7 @@ use crate::gather::{Gathered, LeavingList, ShelfList, gather};
 use crate::kept::{added_by, are_uncut, kept_in};
 use jk_io::NoMemory;
 use lb_book::{Book, BookList};
-use lb_shared::{LeftSeatList, SharedSite, SiteName};
+use lb_shared::{CutLedger, LeftSeatList, SharedSite, SiteName};
 use std::alloc::AllocError;
 use std::sync::Wait;
 use std::sync::ledger::Share;
@@ -106,7 +106,7 @@ pub fn close_own_desks<'r, L: SiteName, S: Drop, R: Wait>(
     requires here { All (λ l. l.seat.lock ≡ lock_of site) leaving }
     ensures sited { IfOk result (λ c. AreSited L.sizes L.firsts c.books) }
 
-    // Of each desk the one history has just the entries that the desk has seen as its own, and none of anybody else.
+    // Of each desk the one history has just the entries and the cuts that the desk has seen as its own, and none of anybody else.
     ensures history { IfOk result (λ c. IsClosed L.starts (map (λ l. l.seat) leaving) c.books) }
     ensures whole { IfOk result (λ c. IsOneHistory L.starts (map (λ l. l.seat) leaving) c.books) }
     ensures counted { IfOk result (λ c. c.entries ≡ sum_by (λ l. l.share.amount) leaving) }
@@ -127,22 +127,23 @@ fn close_gathered<'r, L: SiteName, S: Drop, R: Wait>(
     requires whole { all.share.parts ≡ L.parts }
     requires here { All (λ s. s.lock ≡ lock_of site) all.seats.items }
     ensures sited { IfOk result (λ c. AreSited L.sizes L.firsts c.books) }
-    ensures history { IfOk result (λ c. IsClosed L.starts all.seats.items c.books) }
+    ensures history { IfOk result (λ c. IsClosedAfter L.starts all.seats.items all.cuts.amount c.books) }
     ensures entries { IfOk result (λ c. c.entries ≡ added_in c.books) }
     ensures counted { IfOk result (λ c. c.entries ≡ all.share.amount) }
     ensures shelves { IfOk result (λ c. c.shelves ≡ all.shelves.items) }
     ensures once { IfOk result (λ c. all.forgot ≡ false → AreUncut c.books → IsPermutation all.noted.items (kept_from 0 c.books)) }
     ensures differs { IfErr result (IsCloseError (λ d. (all.forgot ≡ false)
-        × (x : Differs L.sizes L.firsts all.share.amount all.noted.items d) × IsClosed L.starts all.seats.items x.books)) }
+        × (x : Differs L.sizes L.firsts all.share.amount all.noted.items d) × IsClosedAfter L.starts all.seats.items all.cuts.amount x.books)) }
 {
     let Gathered {
         share,
+        cuts,
         noted: list,
         shelves,
         seats,
         forgot,
     } = all;
-    let (books, entries) = end_site(site, share, LeftSeatList::from_vec(seats));
+    let (books, entries) = end_site(site, share, cuts, LeftSeatList::from_vec(seats));
     compare(forgot, list, books.as_slice())?;
     Ok(Closed {
         books,
@@ -155,16 +156,17 @@ fn close_gathered<'r, L: SiteName, S: Drop, R: Wait>(
 fn end_site<'r, L: SiteName, R: Wait>(
     site: SharedSite<'r, L, R>,
     share: Share<L>,
+    cuts: Share<CutLedger<L>>,
     seats: LeftSeatList<L>,
 ) -> (BookList, u64)
-    requires whole { share.parts ≡ L.parts }
+    requires whole { (share.parts ≡ L.parts) × (cuts.parts ≡ L.parts) }
     requires here { All (λ s. s.lock ≡ lock_of site) seats }
     ensures sited { AreSited L.sizes L.firsts result.0 }
-    ensures history { IsClosed L.starts seats result.0 }
+    ensures history { IsClosedAfter L.starts seats cuts.amount result.0 }
     ensures amount { share.amount ≡ added_in result.0 }
     ensures entries { result.1 ≡ added_in result.0 }
 {
-    let mut site = site.into_site(seats);
+    let mut site = site.into_site(seats, cuts);
     let mut share = share;
     site.audit(&mut share);
     let books = site.close(share);

@@ -1,11 +1,11 @@
-//! The shares, receipts, shelves and seats of all desks of a Site, brought together.
+//! The shares of both ledgers, the receipts, shelves and seats of all desks of a Site, brought together.
 ghost use Rattle.std.specs.Prelude.{◌≡◌, ◌+◌, ◌<◌, ◌≤◌, ◌↔◌, ◌++◌, [], ◌∷◌, false, length, map, sum_by, IfOk, OnOk, vec_len, vec_capacity};
 ghost use Rattle.std.specs.List.{All, flat_map};
 ghost use Rattle.lb_closing.specs.Closings.{noted};
 
 use crate::compare::Noted;
 use jk_io::{ListOf, NoMemory};
-use lb_shared::{Leaving, LeftSeat, SiteName, SiteReceiptList};
+use lb_shared::{CutLedger, Leaving, LeftSeat, SiteName, SiteReceiptList};
 use std::alloc::Global;
 use std::sync::ledger::Share;
 
@@ -15,14 +15,16 @@ pub type LeavingList<L, S> = ListOf<Leaving<L, S>>;
 /// Shelves, in order.
 pub type ShelfList<S> = ListOf<S>;
 
-/// The shares as one, the entries of the receipts, the shelves and the seats in order, and whether a desk forgot a receipt.
+/// The shares of each ledger as one, the entries of the receipts, the shelves and the seats in order, and whether a desk forgot a receipt.
 #[derive(Drop)]
 pub(crate) struct Gathered<L: SiteName, S> {
     pub(crate) share: Share<L>,
+    pub(crate) cuts: Share<CutLedger<L>>,
     pub(crate) noted: Vec<Noted>,
     pub(crate) shelves: Vec<S>,
     pub(crate) seats: Vec<LeftSeat<L>>,
     pub(crate) forgot: bool,
+    pub(crate) ghost even: { cuts.parts ≡ share.parts },
 }
 
 /// Puts together all that desks left.
@@ -32,6 +34,7 @@ pub(crate) fn gather<L: SiteName, S: Drop>(
     requires some { 0 < length leaving }
     ensures parts { IfOk result (λ g. g.share.parts ≡ sum_by (λ l. l.share.parts) leaving) }
     ensures amount { IfOk result (λ g. g.share.amount ≡ sum_by (λ l. l.share.amount) leaving) }
+    ensures cuts { IfOk result (λ g. g.cuts.amount ≡ sum_by (λ l. l.cuts.amount) leaving) }
     ensures noted { IfOk result (λ g. g.noted.items ≡ noted (flat_map (λ l. l.receipts) leaving)) }
     ensures shelves { IfOk result (λ g. g.shelves.items ≡ map (λ l. l.shelf) leaving) }
     ensures seats { IfOk result (λ g. g.seats.items ≡ map (λ l. l.seat) leaving) }
@@ -65,6 +68,7 @@ fn take_all<L: SiteName, S: Drop>(
     requires for_seats { vec_len all.old.seats + vec_len leaving ≤ vec_capacity all.old.seats }
     ensures parts { OnOk result (all.new.share.parts ≡ all.old.share.parts + sum_by (λ l. l.share.parts) leaving.items) }
     ensures amount { OnOk result (all.new.share.amount ≡ all.old.share.amount + sum_by (λ l. l.share.amount) leaving.items) }
+    ensures cuts { OnOk result (all.new.cuts.amount ≡ all.old.cuts.amount + sum_by (λ l. l.cuts.amount) leaving.items) }
     ensures noted { OnOk result (all.new.noted.items ≡ all.old.noted.items ++ noted (flat_map (λ l. l.receipts) leaving.items)) }
     ensures shelves { OnOk result (all.new.shelves.items ≡ all.old.shelves.items ++ map (λ l. l.shelf) leaving.items) }
     ensures seats { OnOk result (all.new.seats.items ≡ all.old.seats.items ++ map (λ l. l.seat) leaving.items) }
@@ -84,6 +88,7 @@ fn begin<L: SiteName, S: Drop>(
 ) -> Result<Gathered<L, S>, NoMemory>
     ensures parts { IfOk result (λ all. all.share.parts ≡ first.share.parts) }
     ensures amount { IfOk result (λ all. all.share.amount ≡ first.share.amount) }
+    ensures cuts { IfOk result (λ all. all.cuts.amount ≡ first.cuts.amount) }
     ensures noted { IfOk result (λ all. all.noted.items ≡ noted first.receipts) }
     ensures shelves { IfOk result (λ all. all.shelves.items ≡ first.shelf ∷ []) }
     ensures seats { IfOk result (λ all. all.seats.items ≡ first.seat ∷ []) }
@@ -97,6 +102,7 @@ fn begin<L: SiteName, S: Drop>(
         forgotten,
         shelf,
         seat,
+        cuts,
     } = first;
     let mut list = Vec::new(alloc);
     note_all(&mut list, receipts)?;
@@ -104,6 +110,7 @@ fn begin<L: SiteName, S: Drop>(
     let seats = list_with(alloc, seat, more)?;
     Ok(Gathered {
         share,
+        cuts,
         noted: list,
         shelves,
         seats,
@@ -128,6 +135,7 @@ fn take<L: SiteName, S: Drop>(all: &mut Gathered<L, S>, left: Leaving<L, S>) -> 
     requires for_seats { vec_len all.old.seats < vec_capacity all.old.seats }
     ensures parts { all.new.share.parts ≡ all.old.share.parts + left.share.parts }
     ensures amount { all.new.share.amount ≡ all.old.share.amount + left.share.amount }
+    ensures cuts { all.new.cuts.amount ≡ all.old.cuts.amount + left.cuts.amount }
     ensures noted { OnOk result (all.new.noted.items ≡ all.old.noted.items ++ noted left.receipts) }
     ensures shelves { OnOk result (all.new.shelves.items ≡ all.old.shelves.items ++ left.shelf ∷ []) }
     ensures seats { OnOk result (all.new.seats.items ≡ all.old.seats.items ++ left.seat ∷ []) }
@@ -141,8 +149,10 @@ fn take<L: SiteName, S: Drop>(all: &mut Gathered<L, S>, left: Leaving<L, S>) -> 
         forgotten,
         shelf,
         seat,
+        cuts,
     } = left;
     all.share.merge(share);
+    all.cuts.merge(cuts);
     all.forgot = all.forgot || forgotten != 0;
     note_all(&mut all.noted, receipts)?;
     all.shelves.push(shelf).unwrap();

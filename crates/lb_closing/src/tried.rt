@@ -4,7 +4,7 @@ ghost use Rattle.std.specs.List.{All};
 ghost use Rattle.lb_book.specs.PlainDesks.{AreModern};
 ghost use Rattle.lb_book.specs.ToldBooks.{sizes_of};
 ghost use Rattle.lb_shared.specs.Histories.{starts_of};
-ghost use Rattle.lb_shared.specs.Sites.{added_in, nexts_of};
+ghost use Rattle.lb_shared.specs.Sites.{IsBlankOf, added_in, nexts_of};
 ghost use Rattle.lb_model.specs.declared.segment.TheConstants.{MODERN_RULES};
 
 use crate::close::{CloseError, Closed, close_desks};
@@ -13,11 +13,12 @@ use jk_io::{NoMemory, NumberList};
 use lb_book::desk::Choice;
 use lb_book::{Book, BookList, Desk};
 use lb_model::{Ask, Kind, Outcome};
-use lb_shared::{KeptList, Leaving, MemShelf, SharedDesk, SharedSite, Site, SiteName};
+use lb_shared::{
+    DeskShare, KeptList, Leaving, MemShelf, SharedDesk, SharedSite, Site, SiteBlank, SiteName,
+};
 use std::alloc::Global;
 use std::marker::Brand;
 use std::sync::Wait;
-use std::sync::ledger::{Blank, Share};
 use std::thread;
 use std::thread::Threads;
 
@@ -38,7 +39,7 @@ pub fn try_a_site<R: Threads + Wait + Sync>(
     ensures entries { IfOk result (λ c. c.entries ≡ added_in c.books) }
 {
     let books = one_book(alloc, book)?;
-    in_site::<Brand, R>(rt, alloc, Blank::new(2), books, ask)
+    in_site::<Brand, R>(rt, alloc, SiteBlank::new(2), books, ask)
 }
 
 fn one_book(alloc: Global, book: Book) -> Result<BookList, NoMemory>
@@ -53,11 +54,11 @@ fn one_book(alloc: Global, book: Book) -> Result<BookList, NoMemory>
 fn in_site<L: SiteName + Send + Sync, R: Threads + Wait + Sync>(
     rt: &R,
     alloc: Global,
-    blank: Blank,
+    blank: SiteBlank,
     books: BookList,
     ask: &Ask,
 ) -> Result<Closed<MemShelf>, CloseError<L>>
-    requires name { (blank.name ≡ L.name) × (blank.parts ≡ L.parts) }
+    requires name { IsBlankOf L.name L.cuts_name L.parts blank }
     requires two { L.parts ≡ 2 }
     requires sizes { sizes_of books ≡ L.sizes }
     requires firsts { nexts_of books ≡ L.firsts }
@@ -69,8 +70,9 @@ fn in_site<L: SiteName + Send + Sync, R: Threads + Wait + Sync>(
     requires empty { All (λ b. (b.entries ≡ []) × (b.added ≡ 0)) books }
     ensures entries { IfOk result (λ c. c.entries ≡ added_in c.books) }
 {
-    let (site, share) = Site::<L>::open(blank, books);
-    let shared = SharedSite::new(rt, alloc, site, 0)?;
+    let SiteBlank { entries, cuts } = blank;
+    let (site, share) = Site::<L>::open(entries, books);
+    let (shared, share) = SharedSite::new(rt, alloc, site, share, cuts, 0)?;
     let leaving = both_ask(rt, alloc, &shared, share, ask)?;
     close_desks(shared, leaving)
 }
@@ -80,7 +82,7 @@ fn both_ask<'s, 'r, L: SiteName + Send + Sync, R: Threads + Wait + Sync>(
     rt: &'r R,
     alloc: Global,
     shared: &'s SharedSite<'r, L, R>,
-    share: Share<L>,
+    share: DeskShare<L>,
     ask: &Ask,
 ) -> Result<LeavingList<L, MemShelf>, NoMemory>
     requires parts { share.parts ≡ 2 }
@@ -91,7 +93,7 @@ fn both_ask<'s, 'r, L: SiteName + Send + Sync, R: Threads + Wait + Sync>(
 {
     let mut leaving = Vec::with_capacity(alloc, 2)?;
     let mut share = share;
-    let other = share.split_off(1, 0);
+    let other = share.split_off(1);
     let first = SharedDesk::new(alloc, shared, share, shelf(alloc));
     let second = SharedDesk::new(alloc, shared, other, shelf(alloc));
     let (left, right) = thread::join(

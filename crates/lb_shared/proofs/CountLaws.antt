@@ -1,14 +1,16 @@
--- How many entries a seat has seen as its own, after one hold more.
-use Rattle.std.proofs.Common.{◌≡◌, ℕ, ◌+◌, List, [], ◌++◌, length, drop, Option, ap, ◌∙◌, arith}
-use Rattle.std.specs.Prelude.{OnErr, OnOk, Result, Ok, Err}
+-- How many entries and cuts a seat has seen as its own, after one hold more.
+use Rattle.std.proofs.Common.{◌≡◌, ℕ, ◌+◌, List, [], ◌∷◌, ◌++◌, length, drop, Option, Some, None, ap, sym, ◌∙◌, arith}
+use Rattle.std.specs.Prelude.{OnErr, OnOk, Result, Ok, Err, is_some}
 use Rattle.std.proofs.lemmas.List.{length-append, length-drop, length-map}
 use Rattle.atomic_table.specs.Seated.{TableId}
 use Rattle.atomic_table.specs.Table.{Me}
 use Rattle.lb_model.specs.declared.journal.Entry.{Entry}
 use Rattle.lb_model.specs.declared.opening.Opening.{Opening}
+use Rattle.lb_model.specs.declared.segment.Segment.{Segment}
 use Rattle.lb_book.specs.declared.receipt.Receipt.{Receipt}
 use Rattle.lb_shared.specs.declared.view.View.{View}
-use Rattle.lb_shared.specs.Histories.{SeatSees, Step, gained_in, number_of, own_count, own_in, seat_note, seen_of}
+use Rattle.lb_shared.specs.Histories.{MayCut, SeatNote, SeatSees, Step, cut_count, cuts_seen, gained_in, number_of, own_count, own_in, seat_note, seen_of}
+use Rattle.lb_shared.specs.Holds.{with_cut}
 use Rattle.lb_shared.proofs.GoneLaws.{Adds}
 use Rattle.lb_shared.proofs.LeftLaws.{drop_front, own_sees}
 
@@ -75,3 +77,15 @@ pub count_returned : {S E : Type 0} (starts : List Opening) (lock lock' : TableI
 count_returned starts lock lock' old new rs rs' a a' (Ok x) sees one more none counted = count_back starts lock lock' old new rs rs' a a' 1 sees one more counted
 count_returned starts lock lock' old new rs rs' a a' (Err e) sees one more none counted =
     count_back starts lock lock' old new rs rs' a a' 0 sees (omega (arith, ap (λ (xs : List Receipt). length xs) none.0)) (omega (arith, none.1)) counted
+
+-- The cuts, by what the hold cut.
+pub count_cuts : (old new : SeatNote) (cut : Option (ℕ × Segment)) (a a' : ℕ) → MayCut old new cut → a' ≡ with_cut (is_some cut) a → cut_count old ≡ a → cut_count new ≡ a'
+count_cuts old new None a a' same is was = ap (λ (l : List (ℕ × List (ℕ × Step))). length l) same ∙ was ∙ sym is
+count_cuts old new (Some s) a a' cuts is was =
+    omega (
+      arith,
+      ap (λ (l : List (ℕ × List (ℕ × Step))). length l) cuts.told,
+      length-append (cuts_seen old) ((s.0, cuts.before) ∷ []),
+      is,
+      was,
+    )

@@ -14,7 +14,7 @@ use Rattle.lb_book.specs.declared.receipt.Receipt.{Receipt}
 use Rattle.lb_shared.specs.Seats.{AreApart, IsClaim, by_seat, seated, united}
 use Rattle.lb_shared.specs.declared.view.Claim.{Claim}
 use Rattle.lb_shared.specs.declared.view.View.{View}
-use Rattle.lb_shared.specs.Histories.{AreDistinct, DeskSees, HasGone, IsClosed, IsMadeBy, SeatNote, SeesHold, Step, cuts_seen, gained_in, log_in, noted, own_cuts, own_in}
+use Rattle.lb_shared.specs.Histories.{AreDistinct, DeskSees, HasGone, IsClosedAfter, IsMadeBy, SeatNote, SeesHold, Step, all_cuts, cuts_seen, gained_in, log_in, noted, own_cuts, own_in}
 use Rattle.lb_shared.proofs.StepLaws.{cuts-append, cuts-foreign, log-append, log-foreign}
 
 -- The claim of a seat.
@@ -101,21 +101,24 @@ numbers_of : (seats : List SeatNote) → map (λ (c : Claim Step). c.number) (ma
 numbers_of [] = refl
 numbers_of (s ∷ seats) = ap (λ (ns : List ℕ). s.number ∷ ns) (numbers_of seats)
 
--- The history of a Site whose lock was closed with these seats.
-pub closed_by : (starts : List Opening) (books : List Journal) (steps : List (ℕ × Step)) (first : Claim Step) (seats : List SeatNote)
-    → IsMadeBy starts steps books → All (IsTold starts) seats
+-- The history of a Site whose lock was closed with these seats, after so many cuts.
+pub closed_by : (starts : List Opening) (books : List Journal) (count : ℕ) (steps : List (ℕ × Step)) (first : Claim Step) (seats : List SeatNote)
+    → IsMadeBy starts steps books → length (all_cuts steps) ≡ count → All (IsTold starts) seats
     → ((k : ℕ) (c : Claim Step) → get_elem? (first ∷ map claim_of seats) k ≡ some c → IsClaim steps c)
-    → AreApart (first ∷ map claim_of seats) → IsClosed starts seats books
-closed_by starts books steps first seats made told each apart = record {
-  steps = steps;
-  journals = made.journals;
-  begun = All-weaker (IsTold starts) (λ (s : SeatNote). s.starts ≡ starts) (λ s is. is.1) seats told;
-  cuts = cuts_own steps seats (λ k c at. each (suc k) c at);
-  log = log_in steps;
-  entries = refl;
-  history = made.history;
-  own = owns starts steps seats told (λ k c at. each (suc k) c at);
-  apart = subst AreDistinct (numbers_of seats) (distinct (first ∷ map claim_of seats) apart).1;
+    → AreApart (first ∷ map claim_of seats) → IsClosedAfter starts seats count books
+closed_by starts books count steps first seats made counted told each apart = record {
+  counted = counted;
+  closed = record {
+    steps = steps;
+    journals = made.journals;
+    begun = All-weaker (IsTold starts) (λ (s : SeatNote). s.starts ≡ starts) (λ s is. is.1) seats told;
+    cuts = cuts_own steps seats (λ k c at. each (suc k) c at);
+    log = log_in steps;
+    entries = refl;
+    history = made.history;
+    own = owns starts steps seats told (λ k c at. each (suc k) c at);
+    apart = subst AreDistinct (numbers_of seats) (distinct (first ∷ map claim_of seats) apart).1;
+  };
 }
 
 own_by : (n : ℕ) (gained : List (ℕ × Entry)) → own_in n (by_seat n gained) ≡ gained

@@ -10,10 +10,10 @@ use Rattle.lb_book.specs.declared.receipt.Receipt.{Receipt}
 use Rattle.lb_shared.specs.Seats.{IsClaim, IsToldLast, Took, by_seat, caught_up, seated}
 use Rattle.lb_shared.specs.declared.view.Claim.{Claim}
 use Rattle.lb_shared.specs.declared.view.View.{View}
-use Rattle.lb_shared.specs.Histories.{DeskSees, IsMadeBy, IsResting, IsSegmentAfter, MayCut, SeatSees, Step, added_steps, cut_mark, cuts_from, gained_in, last_in, log_in, number_of, own_cuts, seat_note, seen_of, steps_of}
-use Rattle.lb_shared.specs.Holds.{LockedState, last_steps}
+use Rattle.lb_shared.specs.Histories.{DeskSees, IsMadeBy, IsResting, IsSegmentAfter, MayCut, SeatSees, Step, added_steps, all_cuts, cut_mark, cuts_from, gained_in, last_in, log_in, number_of, own_cuts, seat_note, seen_of, steps_of}
+use Rattle.lb_shared.specs.Holds.{IsToldBy, LockedState, last_steps, with_cut}
 use Rattle.lb_shared.proofs.JournalLaws.{Grew}
-use Rattle.lb_shared.proofs.StepLaws.{cuts-append, cuts-foreign, cuts-hold, cuts-mark, hold_steps, log-append, log-foreign, log-hold}
+use Rattle.lb_shared.proofs.StepLaws.{count-hold, cuts-append, cuts-foreign, cuts-hold, cuts-mark, hold_steps, log-append, log-foreign, log-hold}
 use mathlib.Core.Option.{some}
 use lib.ListN.{get_elem?}
 
@@ -40,7 +40,7 @@ cuts_more n lb first later cut es others =
 
 module _ (starts : List Opening) where
   abbrev Tells : List (ℕ × Step) → LockedState → Type 0
-  Tells steps x = IsMadeBy starts steps x.books
+  Tells steps x = IsToldBy starts steps x
 
   module _ (me me1 : Seat) (rests : IsResting me) (took : Took Tells me.0 me.1 me1) (found : Option LockedState) (there : me1.1 ≡ (0, found) ∷ rest me1.1)
       (told : LockedState) (is_told : found ≡ Some told) where
@@ -49,11 +49,14 @@ module _ (starts : List Opening) where
         let same : Some took.value ≡ found = ap (λ (xs : List (ℕ × Option LockedState)). slot_in xs (Some took.value)) (ap (λ (m : Seat). m.1) (sym took.after_is) ∙ there) in
         ap (λ (x : Option LockedState). some_in x took.value) (same ∙ is_told)
 
+    found_told : IsToldBy starts took.log told
+    found_told = subst (λ (x : LockedState). IsToldBy starts took.log x) value_is took.told
+
     pub found_made : IsMadeBy starts took.log told.books
-    found_made = subst (λ (x : LockedState). IsMadeBy starts took.log x.books) value_is took.told
+    found_made = found_told.0
 
     module _ (new : LockedState) (rs rs' : List Receipt) (lb : ℕ) (cut : Option (ℕ × Segment))
-        (tells : (new.lb ≡ lb) × (new.count ≡ length rs' - length rs) × (new.cut ≡ is_some cut))
+        (tells : (new.lb ≡ lb) × (new.count ≡ length rs' - length rs) × (new.cut ≡ is_some cut) × (new.cuts ≡ with_cut (is_some cut) told.cuts))
         (grows : (n : ℕ) (steps : List (ℕ × Step)) → IsMadeBy starts steps told.books → Grew starts n steps rs rs' lb cut new.books) where
       grew : Grew starts (number_of me.0) took.log rs rs' lb cut new.books
       grew = grows (number_of me.0) took.log found_made
@@ -68,6 +71,13 @@ module _ (starts : List Opening) where
       grown : IsMadeBy starts (took.log ++ by_seat (number_of me.0) (last_steps new)) new.books
       grown = subst (λ (l : List Step). IsMadeBy starts (took.log ++ by_seat (number_of me.0) l) new.books) (sym news_is) grew.made
 
+      counted : new.cuts ≡ length (all_cuts (took.log ++ by_seat (number_of me.0) (last_steps new)))
+      counted =
+          tells.3
+          ∙ ap (λ (k : ℕ). with_cut (is_some cut) k) found_told.1
+          ∙ sym (count-hold (number_of me.0) lb took.log (is_some cut) (gained_in rs rs'))
+          ∙ ap (λ (l : List Step). length (all_cuts (took.log ++ by_seat (number_of me.0) l))) (sym news_is)
+
       abbrev written : Seat
       written = (me1.0, (0, Some new) ∷ rest me1.1)
 
@@ -77,7 +87,7 @@ module _ (starts : List Opening) where
           ∙ ap (λ (m : Seat). (record { holds = true; claims = caught_up took.log m.0.claims }, (0, Some new) ∷ m.1)) rests
 
       pub told_last : IsToldLast Tells last_steps written
-      told_last = record { number = number_of me.0; seen = took.log; value = new; is = written_is; told = grown }
+      told_last = record { number = number_of me.0; seen = took.log; value = new; is = written_is; told = (grown, counted) }
 
       module _ (me2 : Seat) (left : (number : ℕ) (seen : List (ℕ × Step)) (y : LockedState) → ◌≡◌ {A = Seat} written (seated true number seen, (0, Some y) ∷ [])
           → ◌≡◌ {A = Seat} me2 (seated false number (seen ++ by_seat number (last_steps y)), [])) where

@@ -1,11 +1,13 @@
 -- Steps of a Site: their entries, the cuts of a desk, and the journals that they leave.
-use Rattle.std.proofs.Common.{◌≡◌, ◌≢◌, ℕ, Bool, true, false, List, [], ◌∷◌, ◌++◌, Option, Some, None, refl, sym, ap, ◌∙◌, append-nil, append_assoc, eq-eqb, ne_eqb}
+use Rattle.std.proofs.Common.{◌≡◌, ◌≢◌, ℕ, ◌+◌, Bool, true, false, List, [], ◌∷◌, ◌++◌, Option, Some, None, refl, sym, ap, ◌∙◌, append-nil, append_assoc, arith, eq-eqb, length, ne_eqb}
 use Rattle.std.specs.Prelude.{◌==◌}
 use Rattle.std.specs.List.{All}
+use Rattle.std.proofs.lemmas.List.{length-append}
 use Rattle.std.proofs.lemmas.List.Elements.{All-append, All-cons, All-head, All-nil, All-tail}
 use Rattle.lb_model.specs.declared.journal.Entry.{Entry}
 use Rattle.lb_shared.specs.Seats.{by_seat}
-use Rattle.lb_shared.specs.Histories.{Step, added_steps, cut_here, cut_mark, cuts_from, entered, log_in}
+use Rattle.lb_shared.specs.Histories.{Step, added_steps, all_cuts, cut_here, cut_mark, cuts_from, entered, log_in, marked}
+use Rattle.lb_shared.specs.Holds.{with_cut}
 
 pub log-append : (xs ys : List (ℕ × Step)) → log_in (xs ++ ys) ≡ log_in xs ++ log_in ys
 log-append [] ys = refl
@@ -83,3 +85,30 @@ cuts-hold n lb before cut es =
     ∙ cuts-append n before (by_seat n (cut_mark lb cut)) (by_seat n (added_steps es))
     ∙ ap (λ (l : List (ℕ × List (ℕ × Step))). cuts_from n before (by_seat n (cut_mark lb cut)) ++ l) (cuts-added n (before ++ by_seat n (cut_mark lb cut)) es)
     ∙ append-nil (cuts_from n before (by_seat n (cut_mark lb cut)))
+
+-- All cuts.
+pub all-append : (xs ys : List (ℕ × Step)) → all_cuts (xs ++ ys) ≡ all_cuts xs ++ all_cuts ys
+all-append [] ys = refl
+all-append (x ∷ xs) ys =
+    ap (λ (l : List (ℕ × ℕ)). marked x.0 x.1.0 x.1.1 ++ l) (all-append xs ys) ∙ sym (append_assoc (marked x.0 x.1.0 x.1.1) (all_cuts xs) (all_cuts ys))
+
+all-added : (n : ℕ) (es : List (ℕ × Entry)) → all_cuts (by_seat n (added_steps es)) ≡ []
+all-added n [] = refl
+all-added n (e ∷ es) = all-added n es
+
+mark-count : (n lb : ℕ) (cut : Bool) (count : ℕ) → count + length (all_cuts (by_seat n (cut_mark lb cut))) ≡ with_cut cut count
+mark-count n lb true count = omega arith
+mark-count n lb false count = omega arith
+
+-- They are one more after a hold that cut.
+pub count-hold : (n lb : ℕ) (steps : List (ℕ × Step)) (cut : Bool) (es : List (ℕ × Entry))
+    → length (all_cuts (steps ++ by_seat n (hold_steps lb cut es))) ≡ with_cut cut (length (all_cuts steps))
+count-hold n lb steps cut es =
+    let news : all_cuts (by_seat n (hold_steps lb cut es)) ≡ all_cuts (by_seat n (cut_mark lb cut)) =
+    ap (λ (l : List (ℕ × Step)). all_cuts l) (by-hold n lb cut es)
+    ∙ all-append (by_seat n (cut_mark lb cut)) (by_seat n (added_steps es))
+    ∙ ap (λ (l : List (ℕ × ℕ)). all_cuts (by_seat n (cut_mark lb cut)) ++ l) (all-added n es)
+    ∙ append-nil (all_cuts (by_seat n (cut_mark lb cut))) in
+    ap (λ (l : List (ℕ × ℕ)). length l) (all-append steps (by_seat n (hold_steps lb cut es)) ∙ ap (λ (l : List (ℕ × ℕ)). all_cuts steps ++ l) news)
+    ∙ length-append (all_cuts steps) (all_cuts (by_seat n (cut_mark lb cut)))
+    ∙ mark-count n lb cut (length (all_cuts steps))

@@ -78,6 +78,15 @@ pub record IsMadeBy (starts : List Opening) (steps : List (ℕ × Step)) (books 
   pub history : IsSiteHistory starts (log_in steps) books
   pub journals : AreJournalsAfter starts steps books
 
+-- The cuts among the steps of a history, each with the desk that made it and its balancer.
+abbrev pub marked : (number lb : ℕ) → Option Entry → List (ℕ × ℕ)
+marked number lb None = (number, lb) ∷ []
+marked number lb (Some e) = []
+
+abbrev pub all_cuts : List (ℕ × Step) → List (ℕ × ℕ)
+all_cuts [] = []
+all_cuts (x ∷ steps) = marked x.0 x.1.0 x.1.1 ++ all_cuts steps
+
 -- Each cut by the desk of this number, after steps before: its balancer, and all steps before it.
 abbrev pub cut_here : (own : Bool) → (lb : ℕ) → (before : List (ℕ × Step)) → Option Entry → List (ℕ × List (ℕ × Step))
 cut_here true lb before None = (lb, before) ∷ []
@@ -199,6 +208,10 @@ own_in number log = map (λ x. x.1) (filter (λ x. x.0 == number) log)
 abbrev pub own_count : SeatNote → ℕ
 own_count s = length (own_in s.number s.seen)
 
+-- How many cuts the desk with this seat has seen as its own.
+abbrev pub cut_count : SeatNote → ℕ
+cut_count s = length (cuts_seen s)
+
 -- No number stands in the list twice.
 abbrev pub AreDistinct : List ℕ → Type 0
 AreDistinct [] = Unit {0}
@@ -217,6 +230,11 @@ pub record IsClosed (starts : List Opening) (seats : List SeatNote) (books : Lis
   pub history : IsSiteHistory starts log books
   pub own : All (λ s. own_in s.number log ≡ own_in s.number s.seen) seats
   pub apart : AreDistinct (map (λ s. s.number) seats)
+
+-- As `IsClosed`, and the history has so many cuts.
+pub record IsClosedAfter (starts : List Opening) (seats : List SeatNote) (count : ℕ) (books : List Journal) : Type 0 where
+  pub closed : IsClosed starts seats books
+  pub counted : length (all_cuts closed.steps) ≡ count
 
 -- The view is that of balancer lb after this history of the Site.
 abbrev pub IsPresentOf : List Opening → (log : List (ℕ × (ℕ × Entry))) → (lb : ℕ) → ViewNote → Type 0

@@ -1,5 +1,5 @@
 -- One hold of the lock: a Maintain if due, and then a call, on one Book.
-use Rattle.std.specs.Prelude.{◌≡◌, ℕ, ◌+◌, ◌-◌, ◌<◌, ◌≤◌, ◌⊎◌, Bool, false, List, [], ◌∷◌, ◌++◌, length, sum_by, Option, Some, None, Result, Ok, Err, slice_get, slice_index, slice_set, vec_capacity, is_some}
+use Rattle.std.specs.Prelude.{◌≡◌, ℕ, suc, ◌+◌, ◌-◌, ◌<◌, ◌≤◌, ◌⊎◌, Bool, true, false, List, [], ◌∷◌, ◌++◌, length, sum_by, Option, Some, None, Result, Ok, Err, slice_get, slice_index, slice_set, vec_capacity, is_some}
 use Rattle.std.specs.List.{All}
 use Rattle.lb_model.specs.Free.{is_in}
 use Rattle.lb_model.specs.Legal.{HasValues}
@@ -12,6 +12,7 @@ use Rattle.lb_model.specs.declared.journal.Call.TheVariants as call
 use Rattle.lb_model.specs.declared.journal.Entry.{Entry}
 use Rattle.lb_model.specs.declared.journal.How.{How}
 use Rattle.lb_model.specs.declared.journal.Outcome.{Outcome}
+use Rattle.lb_model.specs.declared.opening.Opening.{Opening}
 use Rattle.lb_model.specs.declared.refusal.AdminError.{AdminError}
 use Rattle.lb_model.specs.declared.refusal.AdminError.TheVariants as admin
 use Rattle.lb_model.specs.declared.refusal.RoomError.{RoomError}
@@ -25,7 +26,7 @@ use Rattle.lb_book.specs.declared.desk.Choice.{Choice}
 use Rattle.lb_book.specs.declared.desk.Choice.TheVariants as choice
 use Rattle.lb_book.specs.declared.desk.Occasion.{Occasion}
 use Rattle.lb_book.specs.declared.receipt.Receipt.{Receipt}
-use Rattle.lb_shared.specs.Histories.{Step, added_steps, cut_mark, last_in}
+use Rattle.lb_shared.specs.Histories.{IsMadeBy, Step, added_steps, all_cuts, cut_mark, last_in}
 use Rattle.lb_shared.specs.Notes.{MarkNote}
 use Rattle.lb_shared.specs.Shelves.{CutsAt}
 use Rattle.lb_shared.specs.Sites.{AreSited, At}
@@ -39,10 +40,11 @@ use Rattle.lb_shared.specs.declared.site.MarkKind.TheVariants as refusal
 abbrev pub pools_of : Journal → ℕ
 pools_of b = sum_by (λ c. c.pool) b.opening.config.members
 
--- The value behind the lock: the Books, the number of kept entries at which a journal is cut, where 0 is never, and the
--- balancer of the last hold, with whether it cut that journal and how many entries it added.
+-- The value behind the lock: the Books, how often a journal was cut, the number of kept entries at which one is, where 0 is never,
+-- and the balancer of the last hold, with whether it cut that journal and how many entries it added.
 pub record LockedState : Type 0 where
   pub books : List Journal
+  pub cuts : ℕ
   pub cut_at : ℕ
   pub lb : ℕ
   pub cut : Bool
@@ -51,6 +53,15 @@ pub record LockedState : Type 0 where
 -- The steps of the last hold.
 abbrev pub last_steps : LockedState → List Step
 last_steps l = cut_mark l.lb l.cut ++ added_steps (last_in l.books l.lb l.count)
+
+-- The value is what these steps made of balancers that began with these openings, and has counted their cuts.
+abbrev pub IsToldBy : (starts : List Opening) → List (ℕ × Step) → LockedState → Type 0
+IsToldBy starts steps l = IsMadeBy starts steps l.books × (l.cuts ≡ length (all_cuts steps))
+
+-- A count of cuts, after a hold that cut or not.
+abbrev pub with_cut : (cut : Bool) → (count : ℕ) → ℕ
+with_cut true count = suc count
+with_cut false count = count
 
 -- Where journals are cut, none is much longer than the length at which it is cut.
 abbrev pub AreShort : (cut_at : ℕ) → List Journal → Type 0
@@ -76,13 +87,15 @@ hold_of locked account = held_by locked.books account
 abbrev pub KeepsAccount : {L : Type 0} {n : Ghosts L} → (old new : Account L n) → Type 0
 KeepsAccount old new = (new.share.parts ≡ old.share.parts) × (vec_capacity old.receipts ≤ vec_capacity new.receipts)
 
--- The value behind the lock tells of balancer lb, and of as many entries as this account got receipts for; and of this cut.
+-- The value behind the lock tells of balancer lb, and of as many entries as this account got receipts for; and of this cut, which
+-- it has counted.
 abbrev pub TellsAdded : {L : Type 0} {n : Ghosts L} → (lb : ℕ) → LockedState → (old new : Account L n) → Type 0
 TellsAdded lb told old new = (told.lb ≡ lb) × (told.count ≡ length new.receipts.items - length old.receipts.items)
 
-abbrev pub TellsNews : {L : Type 0} {n : Ghosts L} → (lb : ℕ) → Option (ℕ × Segment) → LockedState → (old new : Account L n) → Type 0
-TellsNews lb cut told old new =
+abbrev pub TellsNews : {L : Type 0} {n : Ghosts L} → (lb : ℕ) → Option (ℕ × Segment) → (was told : LockedState) → (old new : Account L n) → Type 0
+TellsNews lb cut was told old new =
     (told.lb ≡ lb) × (told.count ≡ length new.receipts.items - length old.receipts.items) × (told.cut ≡ is_some cut)
+    × (told.cuts ≡ with_cut (is_some cut) was.cuts)
 
 -- A receipt, if there is one, as a list.
 abbrev pub listed : Option Receipt → List Receipt

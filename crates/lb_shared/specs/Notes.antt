@@ -20,6 +20,11 @@ pub record MarkNote : Type 0 where
   pub refusal : MarkKind
   pub numbers : FullMark
 
+-- How many parts of a ledger there are, and what they count.
+pub record PartNote : Type 0 where
+  pub parts : ℕ
+  pub amount : ℕ
+
 -- Balancer lb as it was looked at.
 pub record ViewNote : Type 0 where
   pub lb : ℕ

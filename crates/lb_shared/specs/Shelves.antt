@@ -32,6 +32,13 @@ pub record AdmissionNote : Type 0 where
   pub lb : ℕ
   pub entries : ℕ
 
+-- A hold that chooses or commands may add a Maintain and the call's own entry, and one that takes a lease back its Return.
+abbrev pub for_call : (lb : ℕ) → AdmissionNote
+for_call lb = record { lb = lb; entries = 2 }
+
+abbrev pub for_return : (lb : ℕ) → AdmissionNote
+for_return lb = record { lb = lb; entries = 1 }
+
 -- The note of a desk's shelf: the segments that it kept, how often it failed, and for how many segments it wanted memory;
 -- how many receipts the desk forgot; and with which openings the balancers began, and each cut that the desk made, as `own_cuts`
 -- tells of it.

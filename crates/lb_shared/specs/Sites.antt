@@ -7,6 +7,14 @@ use Rattle.lb_book.specs.Journal.{Journal, next_number}
 use Rattle.lb_book.specs.PlainDesks.{AreLegal, AreModern}
 use Rattle.lb_book.specs.ToldBooks.{IsNextAt, grown_by, sizes_of}
 use Rattle.lb_book.specs.declared.receipt.Receipt.{Receipt}
+use Rattle.lb_shared.specs.declared.ledgers.SiteBlank.{SiteBlank}
+
+-- These are the ledgers of these names, that of the entries and that of the cuts, each in so many parts.
+pub record IsBlankOf (name cuts_name parts : ℕ) (blank : SiteBlank) : Type 0 where
+  pub named : blank.entries.name ≡ name
+  pub whole : blank.entries.parts ≡ parts
+  pub cuts_named : blank.cuts.name ≡ cuts_name
+  pub cuts_whole : blank.cuts.parts ≡ parts
 
 -- How many entries the Books ever added.
 abbrev pub added_in : List Journal → ℕ

@@ -1,15 +1,16 @@
-//! Balancers behind one lock: their Books, counted by one ledger, and a desk for each thread that asks them.
+//! Balancers behind one lock: their Books, whose entries and cuts are counted by ledgers, and a desk for each thread that asks them.
 //!
 //! Source: Tomcat Connectors reference, LoadBalancer HowTo; one lock round all balancers is an own rule.
 //! Shapes: a `Site` is in contracts the list of its Books' journals; the amount of a share of its ledger is the number
-//! of entries that were added through it. Receipts, leases, marks, views, strays and segments name the Site in their type.
+//! of entries that were added through it; a second ledger counts the cuts of journals in the same way. Receipts, leases, marks, views,
+//! strays and segments name the Site in their type.
 //! The Site lies behind a lock that keeps one history of it, a list of steps, each an entry that was added or a cut of a journal, with the
 //! number of the seat that made it, which exists in contracts alone; a desk's seat, which takes no memory, knows what it has seen of
 //! that history and which steps are its own (specs/Histories.antt, `SeesHold`, `MayCut`). The lock is the futex lock of three states,
 //! over the kit's table of words and slots.
 //! Contract: each call of a `Site`, clauses `ok`, `amount` and `err`; `Site::close`, clause `counted`; `SharedDesk` is a
 //! `Desk`, with `hand_back`, clause `counted`, `choose` and `command`, clause `shelf`, and each call, clause `sees`; its own `take_back`,
-//! clause `shelf`; the type `Leaving`, field `counted`.
+//! clause `shelf`; the type `Leaving`, fields `counted` and `own_cuts`; `SharedSite::into_site`.
 //! Of the lock: `HistoryLock::enter`, clause `took`, and `HistoryLock::leave`, clause `left` (specs/Seats.antt).
 //! What stands behind the lock keeps that no journal grows much longer than where it is cut (specs/Holds.antt, `AreShort`).
 //! Read first: specs/Sites.antt, then specs/Histories.antt, SiteAnswers.antt, Holds.antt and SharedDesks.antt.
@@ -20,6 +21,7 @@
 mod account;
 mod cut_length;
 mod holds;
+mod ledgers;
 mod left_seat;
 mod lent_desk;
 mod lock;
@@ -36,6 +38,7 @@ mod threads;
 mod told;
 mod view;
 
+pub use ledgers::{CutLedger, DeskShare, SiteBlank};
 pub use left_seat::{LeftSeat, LeftSeatList};
 pub use lent_desk::{DeskLoan, LentDesk, Moment};
 pub use lock::{HistoryLock, LockSeat, Unopened};

@@ -2,12 +2,13 @@
 
 use crate::account::Account;
 use crate::holds::{choose_in, command_in, note};
+use crate::ledgers::CutLedger;
 use crate::site::{Site, SiteLease, SiteMark, SiteName, SiteSegment, SiteStray, SiteView};
 use jk_io::NoMemory;
 use lb_book::desk::{Choice, Occasion};
 use lb_model::{AdminError, Ask, Command, Outcome, RoomError};
 use std::marker::Model;
-use std::sync::ledger::Share;
+use std::sync::ledger::{Book as Tally, Share};
 
 /// What a hold that may cut answered, with the segment that it cut.
 pub(crate) type Cut<L, T> = (Option<SiteSegment<L>>, T);
@@ -26,11 +27,12 @@ pub(crate) struct HandedBack<L> {
     pub(crate) outcome: Outcome,
 }
 
-/// A Site whose journals are cut before they grow long, with the balancer of the last hold, whether it cut that journal, and how
-/// many entries it added.
+/// A Site whose journals are cut before they grow long, with the ledger of the cuts, and the balancer of the last hold, whether it
+/// cut that journal, and how many entries it added.
 #[derive(Drop)]
 pub(crate) struct Locked<L: SiteName> {
     site: Site<L>,
+    cuts: Tally<CutLedger<L>>,
     /// The number of kept entries from which on a journal is cut; 0 is never.
     cut_at: u32,
     lb: u32,
@@ -44,7 +46,7 @@ impl<L: SiteName> Model for Locked<L> {
 
     ghost Value = { LockedState };
 
-    ghost view = { λ l. record { books = l.site; cut_at = l.cut_at; lb = l.lb; cut = l.cut; count = l.count } };
+    ghost view = { λ l. record { books = l.site; cuts = l.cuts.total; cut_at = l.cut_at; lb = l.lb; cut = l.cut; count = l.count } };
 
     ghost invariant = { λ l. (l.cut_at ≡ L.cut_at) × AreShort l.cut_at l.site };
 }
@@ -71,20 +73,22 @@ impl<L: SiteName> Locked<L> {
       TellsNews,
       cut_in,
       hold_of,
+      with_cut,
     };
     ghost use Rattle.lb_shared.specs.SharedDesks.{CutsOrWants};
     ghost use Rattle.lb_shared.specs.Sites.{AreSited, At};
     ghost use Rattle.lb_model.specs.declared.journal.TheConstants.{MOST_BYTES};
     ghost use Rattle.lb_shared.specs.declared.site.TheConstants.{MOST_ENTRIES};
 
-    pub(crate) fn new(site: Site<L>, cut_at: u32) -> Locked<L>
+    pub(crate) fn new(site: Site<L>, cuts: Tally<CutLedger<L>>, cut_at: u32) -> Locked<L>
         requires named { cut_at ≡ L.cut_at }
         requires uncut { 0 < cut_at → (lb : ℕ) → At site lb (λ b. b.entries ≡ []) }
-        ensures { result ≡ record { books = site; cut_at = cut_at; lb = 0; cut = false; count = 0 } }
+        ensures { result ≡ record { books = site; cuts = cuts.total; cut_at = cut_at; lb = 0; cut = false; count = 0 } }
     {
         site.count();
         Locked {
             site,
+            cuts,
             cut_at,
             lb: 0,
             cut: false,
@@ -92,20 +96,34 @@ impl<L: SiteName> Locked<L> {
         }
     }
 
-    pub(crate) fn into_site(self) -> Site<L>
-        ensures { result ≡ self.books }
+    /// Gives the Site back. The share, which has every part, says how often a journal was cut.
+    pub(crate) fn into_site(self, share: Share<CutLedger<L>>) -> Site<L>
+        requires whole { share.parts ≡ L.parts }
+        ensures books { result ≡ self.books }
+        ensures counted { share.amount ≡ self.cuts }
     {
-        self.site
+        let mut locked = self;
+        let mut share = share;
+        locked.cuts.audit(&mut share);
+        locked.site
     }
 
-    // Cuts a journal, if it has come to the length at which it is cut.
-    fn cut_first(&mut self, lb: u32) -> Result<Option<SiteSegment<L>>, NoMemory>
+    // Cuts a journal, if it has come to the length at which it is cut, and counts the cut.
+    fn cut_first(
+        &mut self,
+        lb: u32,
+        share: &mut Share<CutLedger<L>>,
+    ) -> Result<Option<SiteSegment<L>>, NoMemory>
         requires lb { lb < length self.old.books }
+        requires part { 0 < share.old.parts }
         ensures ok { IfOk result (CutsFirst self.old.books self.new.books lb) }
         ensures when { IfOk result (λ s. At self.old.books lb (λ b. IsSome s ↔ ((0 < L.cut_at) × (L.cut_at ≤ length b.entries)))) }
         ensures sited { AreSited L.sizes L.firsts self.old.books × AreSited L.sizes L.firsts self.new.books }
         ensures short { OnOk result (0 < self.new.cut_at → At self.new.books lb (λ b. length b.entries < self.new.cut_at)) }
         ensures told { self.new.cut ≡ is_some (cut_in result) }
+        ensures counted { self.new.cuts ≡ with_cut (is_some (cut_in result)) self.old.cuts }
+        ensures amount { share.new.amount ≡ with_cut (is_some (cut_in result)) share.old.amount }
+        ensures parts { share.new.parts ≡ share.old.parts }
         ensures err { OnErr result (self.new ≡ record self.old { cut = false }) }
         ensures same { (self.new.cut_at ≡ self.old.cut_at) × (self.new.lb ≡ self.old.lb) }
     {
@@ -116,6 +134,7 @@ impl<L: SiteName> Locked<L> {
         }
         let segment = self.site.cut(lb)?;
         self.cut = true;
+        self.cuts.add(share, 1);
         self.site.count();
         Ok(Some(segment))
     }
@@ -126,22 +145,26 @@ impl<L: SiteName> Locked<L> {
         on: Occasion,
         ask: &Ask,
         account: &mut Account<L>,
+        cuts: &mut Share<CutLedger<L>>,
     ) -> Cut<L, Result<Choice<SiteLease<L>>, RoomError<SiteMark<L>>>>
         requires lb { on.lb < length L.sizes }
         requires room { vec_len account.old.receipts + 2 ≤ vec_capacity account.old.receipts }
+        requires part { 0 < cuts.old.parts }
         ensures ok { IfOk result.1 (CutChooses L.sizes L.firsts result.0 (hold_of self.old account.old) (hold_of self.new account.new) on ask.now) }
         ensures err { IfErr result.1 (CutDenies L.sizes L.firsts result.0 (hold_of self.old account.old) (hold_of self.new account.new) on) }
         ensures when { CutsOrWants L.sizes L.cut_at on.lb result.0 (IsErrOf result.1 RoomError.NoMemory) }
         ensures mark { IfErr result.1 (IsRoomMark on.lb 2) }
         ensures few { account.new.share.amount ≤ MOST_ENTRIES }
         ensures kept { KeepsAccount account.old account.new }
-        ensures news { TellsNews on.lb result.0 self.new account.old account.new }
+        ensures news { TellsNews on.lb result.0 self.old self.new account.old account.new }
+        ensures counted { cuts.new.amount ≡ with_cut (is_some result.0) cuts.old.amount }
+        ensures parts { cuts.new.parts ≡ cuts.old.parts }
     {
         let before = account.receipts.len();
         self.site.audit(&mut account.share);
         self.lb = on.lb;
         self.count = 0;
-        let segment = match self.cut_first(on.lb) {
+        let segment = match self.cut_first(on.lb, cuts) {
             Ok(segment) => segment,
             Err(NoMemory) => return (None, Err(RoomError::NoMemory)),
         };
@@ -157,22 +180,26 @@ impl<L: SiteName> Locked<L> {
         on: Occasion,
         command: &Command,
         account: &mut Account<L>,
+        cuts: &mut Share<CutLedger<L>>,
     ) -> Cut<L, Result<(), AdminError<SiteMark<L>>>>
         requires lb { on.lb < length L.sizes }
         requires room { vec_len account.old.receipts + 2 ≤ vec_capacity account.old.receipts }
+        requires part { 0 < cuts.old.parts }
         ensures ok { OnOk result.1 (CutCommands L.sizes L.firsts result.0 (hold_of self.old account.old) (hold_of self.new account.new) on command.now) }
         ensures err { IfErr result.1 (CutRefuses L.sizes L.firsts result.0 (hold_of self.old account.old) (hold_of self.new account.new) on command.now) }
         ensures when { CutsOrWants L.sizes L.cut_at on.lb result.0 (IsErrOf result.1 AdminError.NoMemory) }
         ensures mark { IfErr result.1 (IsAdminMark on.lb) }
         ensures few { account.new.share.amount ≤ MOST_ENTRIES }
         ensures kept { KeepsAccount account.old account.new }
-        ensures news { TellsNews on.lb result.0 self.new account.old account.new }
+        ensures news { TellsNews on.lb result.0 self.old self.new account.old account.new }
+        ensures counted { cuts.new.amount ≡ with_cut (is_some result.0) cuts.old.amount }
+        ensures parts { cuts.new.parts ≡ cuts.old.parts }
     {
         let before = account.receipts.len();
         self.site.audit(&mut account.share);
         self.lb = on.lb;
         self.count = 0;
-        let segment = match self.cut_first(on.lb) {
+        let segment = match self.cut_first(on.lb, cuts) {
             Ok(segment) => segment,
             Err(NoMemory) => return (None, Err(AdminError::NoMemory)),
         };
@@ -183,10 +210,16 @@ impl<L: SiteName> Locked<L> {
     }
 
     /// Cuts the journal if due, and takes a lease back. Where there is no memory for the cut the journal isn't cut.
-    pub(crate) fn give_back(&mut self, back: HandedBack<L>, account: &mut Account<L>) -> CutBack<L>
+    pub(crate) fn give_back(
+        &mut self,
+        back: HandedBack<L>,
+        account: &mut Account<L>,
+        cuts: &mut Share<CutLedger<L>>,
+    ) -> CutBack<L>
         requires lb { back.lease.lb < length L.sizes }
         requires bytes { back.outcome.bytes ≤ MOST_BYTES }
         requires room { vec_len account.old.receipts < vec_capacity account.old.receipts }
+        requires part { 0 < cuts.old.parts }
         ensures ok { OnOk result.1 (CutTakesBack L.sizes L.firsts (cut_in result.0) (hold_of self.old account.old) (hold_of self.new account.new) back) }
         ensures err { OnErr result.1 (CutMeets L.sizes L.firsts (cut_in result.0) (hold_of self.old account.old) (hold_of self.new account.new) back.lease.lb) }
         ensures when { CutsOrWants L.sizes L.cut_at back.lease.lb (cut_in result.0) (IsErr result.0) }
@@ -194,10 +227,12 @@ impl<L: SiteName> Locked<L> {
         ensures why { IfErr result.1 (λ s. IsNotOut L.sizes None back.lease s.stray) }
         ensures few { account.new.share.amount ≤ MOST_ENTRIES }
         ensures kept { KeepsAccount account.old account.new }
-        ensures news { TellsNews back.lease.lb (cut_in result.0) self.new account.old account.new }
+        ensures news { TellsNews back.lease.lb (cut_in result.0) self.old self.new account.old account.new }
+        ensures counted { cuts.new.amount ≡ with_cut (is_some (cut_in result.0)) cuts.old.amount }
+        ensures parts { cuts.new.parts ≡ cuts.old.parts }
     {
         self.site.count();
-        let cut = self.cut_first(back.lease.lb());
+        let cut = self.cut_first(back.lease.lb(), cuts);
         let done = self.take_back(back, account);
         (cut, done)
     }
@@ -220,6 +255,7 @@ impl<L: SiteName> Locked<L> {
         ensures kept { KeepsAccount account.old account.new }
         ensures news { TellsAdded back.lease.lb self.new account.old account.new }
         ensures uncut { self.new.cut ≡ self.old.cut }
+        ensures uncounted { self.new.cuts ≡ self.old.cuts }
     {
         let HandedBack {
             session,
@@ -251,7 +287,7 @@ impl<L: SiteName> Locked<L> {
         ensures same { self.new.books ≡ self.old.books }
         ensures amount { share.new.amount ≡ share.old.amount }
         ensures parts { share.new.parts ≡ share.old.parts }
-        ensures news { (self.new.count ≡ 0) × (self.new.cut ≡ false) }
+        ensures news { (self.new.count ≡ 0) × (self.new.cut ≡ false) × (self.new.cuts ≡ self.old.cuts) }
     {
         self.site.audit(share);
         self.cut = false;

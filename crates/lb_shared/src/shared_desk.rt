@@ -1,10 +1,11 @@
 //! A desk of one thread over the Site that all threads share.
 ghost use Rattle.std.specs.Prelude.{◌≡◌, ◌+◌, ◌<◌, ◌≤◌, is_err, length};
-ghost use Rattle.lb_shared.specs.Histories.{own_count};
+ghost use Rattle.lb_shared.specs.Histories.{cut_count, own_count};
 ghost use Rattle.lb_shared.specs.Holds.{cut_in};
 ghost use Rattle.lb_shared.specs.SharedDesks.{CountsFull, CountsRefusal, PutsAway, first_met};
 
 use crate::account::Account;
+use crate::ledgers::{CutLedger, DeskShare};
 use crate::left_seat::LeftSeat;
 use crate::locked::HandedBack;
 use crate::shared_site::SharedSite;
@@ -58,8 +59,8 @@ impl<'s, 'r, L: SiteName, S: Shelf, R> Model for SharedDesk<'s, 'r, L, S, R> {
     } };
 }
 
-/// What a desk leaves: its share, the receipts that it has, how many it forgot, its shelf, and its seat at the lock. Its share
-/// counts just the entries that its seat has seen as its own.
+/// What a desk leaves: its share, the receipts that it has, how many it forgot, its shelf, its seat at the lock, and as many parts of
+/// the ledger of the cuts. The shares count just the entries and the cuts that its seat has seen as its own.
 #[derive(Drop)]
 pub struct Leaving<L: SiteName, S> {
     pub share: Share<L>,
@@ -67,9 +68,12 @@ pub struct Leaving<L: SiteName, S> {
     pub forgotten: u64,
     pub shelf: S,
     pub seat: LeftSeat<L>,
+    pub cuts: Share<CutLedger<L>>,
     pub ghost part: { 0 < share.parts },
     pub ghost counted: { share.amount ≡ length receipts + forgotten },
     pub ghost own: { own_count seat ≡ share.amount },
+    pub ghost even: { cuts.parts ≡ share.parts },
+    pub ghost own_cuts: { cut_count seat ≡ cuts.amount },
 }
 
 impl<'s, 'r, L: SiteName, S: Shelf, R> SharedDesk<'s, 'r, L, S, R> {
@@ -80,11 +84,11 @@ impl<'s, 'r, L: SiteName, S: Shelf, R> SharedDesk<'s, 'r, L, S, R> {
     ghost use Rattle.lb_shared.specs.Locks.{lock_of};
     ghost use Rattle.lb_shared.specs.SharedDesks.{PutsAwayOf, SharedState, first_met, shared_desk, stray_in};
 
-    /// A desk with a part of the ledger, without a receipt or a ticket. It takes no memory.
+    /// A desk with a part of both ledgers, without a receipt or a ticket. It takes no memory.
     pub fn new(
         alloc: Global,
         site: &'s SharedSite<'r, L, R>,
-        share: Share<L>,
+        share: DeskShare<L>,
         shelf: S,
     ) -> SharedDesk<'s, 'r, L, S, R>
         requires part { 0 < share.parts }
@@ -171,12 +175,13 @@ impl<'s, 'r, L: SiteName, S: Shelf, R> SharedDesk<'s, 'r, L, S, R> {
         let admission = self
             .shelf
             .admit(lease.lb(), RETURN_ALONE, self.stake.cut_at());
-        let (cut, done) = self.stake.give_back(HandedBack {
+        let back = HandedBack {
             session,
             at,
             lease,
             outcome,
-        });
+        };
+        let (cut, done) = self.stake.give_back(back, &admission);
         let kept = put_cut(&mut self.shelf, &mut self.wants, cut);
         self.shelf
             .settle(admission, self.stake.count().saturating_sub(before));
@@ -191,8 +196,8 @@ impl<'s, 'r, L: SiteName, S: Shelf, R> SharedDesk<'s, 'r, L, S, R> {
         }
     }
 
-    /// Ends the desk. The share's amount is the number of the receipts and of those that were forgotten. It takes no
-    /// memory.
+    /// Ends the desk. The share's amount is the number of the receipts and of those that were forgotten, and that of the other share the
+    /// number of its cuts. It takes no memory.
     pub fn leave(self) -> Leaving<L, S>
         requires none_held { self.desk.held ≡ [] }
         ensures receipts { result.receipts ≡ self.entry.desk.receipts }
@@ -214,6 +219,7 @@ impl<'s, 'r, L: SiteName, S: Shelf, R> SharedDesk<'s, 'r, L, S, R> {
         let Stake {
             site: _,
             account,
+            cuts,
             forgotten,
             held: _,
             seat,
@@ -225,6 +231,7 @@ impl<'s, 'r, L: SiteName, S: Shelf, R> SharedDesk<'s, 'r, L, S, R> {
             forgotten,
             shelf,
             seat: LeftSeat::new(seat),
+            cuts,
         }
     }
 }
@@ -292,7 +299,9 @@ impl<'s, 'r, L: SiteName, S: Shelf, R: Wait> Desk for SharedDesk<'s, 'r, L, S, R
     {
         let before = self.stake.count();
         let admission = self.shelf.admit(lb, MAINTAIN_AND_CALL, self.stake.cut_at());
-        let (segment, done) = self.stake.choose(Occasion { lb, session, at }, ask);
+        let (segment, done) = self
+            .stake
+            .choose(Occasion { lb, session, at }, ask, &admission);
         put_away(&mut self.shelf, &mut self.wants, segment);
         self.shelf
             .settle(admission, self.stake.count().saturating_sub(before));
@@ -354,7 +363,9 @@ impl<'s, 'r, L: SiteName, S: Shelf, R: Wait> Desk for SharedDesk<'s, 'r, L, S, R
     {
         let before = self.stake.count();
         let admission = self.shelf.admit(lb, MAINTAIN_AND_CALL, self.stake.cut_at());
-        let (segment, done) = self.stake.command(Occasion { lb, session, at }, command);
+        let (segment, done) = self
+            .stake
+            .command(Occasion { lb, session, at }, command, &admission);
         put_away(&mut self.shelf, &mut self.wants, segment);
         self.shelf
             .settle(admission, self.stake.count().saturating_sub(before));

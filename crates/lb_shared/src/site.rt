@@ -31,6 +31,9 @@ pub trait SiteName: Ledger {
 
     // the number of kept entries from which on a shared journal is cut; 0 is never
     ghost cut_at: { ℕ };
+
+    // the name of the ledger of its cuts
+    ghost cuts_name: { ℕ };
 }
 
 impl SiteName for Brand {
@@ -43,6 +46,8 @@ impl SiteName for Brand {
     ghost firsts = { [] };
 
     ghost cut_at = { 0 };
+
+    ghost cuts_name = { 0 };
 }
 
 /// The Books of all balancers, in order. Each has rules 2, and the ledger's total is the number of entries that they

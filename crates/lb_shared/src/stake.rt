@@ -5,8 +5,10 @@ ghost use Rattle.lb_book.specs.Desks.{is_pair, without_last};
 ghost use Rattle.lb_shared.specs.SharedDesks.{IsLastPlace, pairs_of};
 
 use crate::account::Account;
+use crate::ledgers::{CutLedger, DeskShare};
 use crate::locked::{Cut, CutBack, HandedBack};
 use crate::shared_site::SharedSite;
+use crate::shelf::Admission;
 use crate::site::{SiteLease, SiteMark, SiteName, SiteView};
 use crate::told::SiteSeat;
 use jk_io::NoMemory;
@@ -17,11 +19,13 @@ use std::marker::Model;
 use std::sync::Wait;
 use std::sync::ledger::Share;
 
-/// A part of the ledger with the receipts of what it counts, the tickets that are out, and a seat at the lock.
+/// A part of the ledger with the receipts of what it counts, as much of the ledger of the cuts, the tickets that are out, and a seat
+/// at the lock.
 #[derive(Drop)]
 pub(crate) struct Stake<'s, 'r, L: SiteName, R> {
     pub(crate) site: &'s SharedSite<'r, L, R>,
     pub(crate) account: Account<L>,
+    pub(crate) cuts: Share<CutLedger<L>>,
     /// How many receipts were dropped, which stay counted.
     pub(crate) forgotten: u64,
     /// Balancer and ticket of each lease that is out, in the order of the choices.
@@ -31,7 +35,7 @@ pub(crate) struct Stake<'s, 'r, L: SiteName, R> {
 
 impl<'s, 'r, L: SiteName, R> Model for Stake<'s, 'r, L, R> {
     ghost use Rattle.std.specs.Prelude.{◌≡◌, length, vec_capacity};
-    ghost use Rattle.lb_shared.specs.Histories.{IsResting, own_count, seat_note};
+    ghost use Rattle.lb_shared.specs.Histories.{IsResting, cut_count, own_count, seat_note};
     ghost use Rattle.lb_shared.specs.SharedDesks.{IsShared};
     ghost use Rattle.lb_shared.specs.Stakes.{StakeState};
 
@@ -48,11 +52,12 @@ impl<'s, 'r, L: SiteName, R> Model for Stake<'s, 'r, L, R> {
     } };
 
     // Each entry of the share has a receipt, or had one that was forgotten; there is room for the receipts of the Returns to come;
-    // and the seat, which rests at the Site's lock, has seen as its own as many entries.
+    // and the seat, which rests at the Site's lock, has seen as its own as many entries, and as many cuts as the other share counts.
     ghost invariant = { λ s. IsShared (length L.sizes) s.account.receipts.items s.held.items s.account.share.parts s.account.share.amount s.forgotten
         (vec_capacity s.account.receipts)
         × (s.seat.table_id ≡ s.site.now.lock.table.shared.table_id) × IsResting s.seat.me
-        × (own_count (seat_note L.starts s.seat.table_id s.seat.me) ≡ s.account.share.amount) };
+        × (own_count (seat_note L.starts s.seat.table_id s.seat.me) ≡ s.account.share.amount)
+        × (cut_count (seat_note L.starts s.seat.table_id s.seat.me) ≡ s.cuts.amount) × (s.cuts.parts ≡ s.account.share.parts) };
 }
 
 impl<'s, 'r, L: SiteName, R> Stake<'s, 'r, L, R> {
@@ -65,14 +70,15 @@ impl<'s, 'r, L: SiteName, R> Stake<'s, 'r, L, R> {
     ghost use Rattle.lb_shared.specs.Holds.{IsAdminMark, IsRoomMark, cut_in};
     ghost use Rattle.lb_shared.specs.Locks.{lock_of};
     ghost use Rattle.lb_shared.specs.SharedDesks.{CutsFor};
+    ghost use Rattle.lb_shared.specs.Shelves.{for_call, for_return};
     ghost use Rattle.lb_shared.specs.Stakes.{KeepsStake, StakeChooses, StakeCommands, StakeDenies, StakeRefuses, StakeTakesBack};
     ghost use Rattle.lb_model.specs.declared.journal.TheConstants.{MOST_BYTES};
 
-    /// A stake with a part of the ledger that counts nothing.
+    /// A stake with a part of both ledgers that counts nothing.
     pub(crate) fn new(
         alloc: Global,
         site: &'s SharedSite<'r, L, R>,
-        share: Share<L>,
+        share: DeskShare<L>,
     ) -> Stake<'s, 'r, L, R>
         requires part { 0 < share.parts }
         requires amount { share.amount ≡ 0 }
@@ -81,12 +87,14 @@ impl<'s, 'r, L: SiteName, R> Stake<'s, 'r, L, R> {
         ensures seat { (result.seat.seen ≡ []) × (result.seat.lock ≡ lock_of site.now) }
         ensures steps { (result.seat.steps ≡ []) × (result.seat.starts ≡ L.starts) }
     {
+        let (share, cuts) = share.into_shares();
         Stake {
             site,
             account: Account {
                 share,
                 receipts: Vec::new(alloc),
             },
+            cuts,
             forgotten: 0,
             held: Vec::new(alloc),
             seat: site.lock.seat(),
@@ -116,15 +124,17 @@ impl<'s, 'r, L: SiteName, R> Stake<'s, 'r, L, R> {
     }
 
     /// A hold that cuts the journal if due, does a Maintain if due, and then a Select. The room is taken before it: for both
-    /// receipts, for that of the ticket's Return, and for the ticket.
+    /// receipts, for that of the ticket's Return, and for the ticket. The shelf has admitted just what such a hold may add.
     pub(crate) fn choose(
         &mut self,
         on: Occasion,
         ask: &Ask,
+        admission: &Admission,
     ) -> Cut<L, Result<Choice<SiteLease<L>>, RoomError<SiteMark<L>>>>
     where
         R: Wait,
         requires known { on.lb < length L.sizes }
+        requires admitted { admission.now ≡ for_call on.lb }
         ensures ok { IfOk result.1 (StakeChooses L.sizes self.old self.new on ask.now) }
         ensures err { IfErr result.1 (StakeDenies L.sizes self.old self.new on) }
         ensures held { OnErr result.1 (self.new.held ≡ self.old.held) }
@@ -141,7 +151,7 @@ impl<'s, 'r, L: SiteName, R> Stake<'s, 'r, L, R> {
         }
         self.site.lock.enter(self.site.rt, &mut self.seat);
         let done = match self.seat.slot_mut(&self.site.lock.table.shared, 0) {
-            Some(locked) => locked.choose(on, ask, &mut self.account),
+            Some(locked) => locked.choose(on, ask, &mut self.account, &mut self.cuts),
             None => unreachable!(),
         };
         self.site.lock.leave(&mut self.seat);
@@ -154,10 +164,12 @@ impl<'s, 'r, L: SiteName, R> Stake<'s, 'r, L, R> {
         &mut self,
         on: Occasion,
         command: &Command,
+        admission: &Admission,
     ) -> Cut<L, Result<(), AdminError<SiteMark<L>>>>
     where
         R: Wait,
         requires known { on.lb < length L.sizes }
+        requires admitted { admission.now ≡ for_call on.lb }
         ensures ok { OnOk result.1 (StakeCommands L.sizes self.old self.new on command.now) }
         ensures err { IfErr result.1 (StakeRefuses L.sizes self.old self.new on command.now) }
         ensures held { self.new.held ≡ self.old.held }
@@ -174,7 +186,7 @@ impl<'s, 'r, L: SiteName, R> Stake<'s, 'r, L, R> {
         }
         self.site.lock.enter(self.site.rt, &mut self.seat);
         let done = match self.seat.slot_mut(&self.site.lock.table.shared, 0) {
-            Some(locked) => locked.command(on, command, &mut self.account),
+            Some(locked) => locked.command(on, command, &mut self.account, &mut self.cuts),
             None => unreachable!(),
         };
         self.site.lock.leave(&mut self.seat);
@@ -182,9 +194,10 @@ impl<'s, 'r, L: SiteName, R> Stake<'s, 'r, L, R> {
     }
 
     /// A hold that cuts the journal if due, and takes a lease back. It isn't refused for want of memory.
-    pub(crate) fn give_back(&mut self, back: HandedBack<L>) -> CutBack<L>
+    pub(crate) fn give_back(&mut self, back: HandedBack<L>, admission: &Admission) -> CutBack<L>
     where
         R: Wait,
+        requires admitted { admission.now ≡ for_return back.lease.lb }
         requires held { holds self.old.held (pair_of back.lease) ≡ true }
         requires bytes { back.outcome.bytes ≤ MOST_BYTES }
         ensures ok { OnOk result.1 (StakeTakesBack L.sizes self.old self.new back) }
@@ -202,7 +215,7 @@ impl<'s, 'r, L: SiteName, R> Stake<'s, 'r, L, R> {
         let (lb, ticket) = (back.lease.lb(), back.lease.ticket());
         self.site.lock.enter(self.site.rt, &mut self.seat);
         let done = match self.seat.slot_mut(&self.site.lock.table.shared, 0) {
-            Some(locked) => locked.give_back(back, &mut self.account),
+            Some(locked) => locked.give_back(back, &mut self.account, &mut self.cuts),
             None => unreachable!(),
         };
         self.site.lock.leave(&mut self.seat);

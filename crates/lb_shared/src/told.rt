@@ -12,10 +12,9 @@ pub(crate) struct SiteTells<L> {
 }
 
 impl<L: SiteName> Telling<Locked<L>, (u32, Option<Entry>)> for SiteTells<L> {
-    ghost use Rattle.lb_shared.specs.Histories.{IsMadeBy};
-    ghost use Rattle.lb_shared.specs.Holds.{last_steps};
+    ghost use Rattle.lb_shared.specs.Holds.{IsToldBy, last_steps};
 
-    ghost tells = { λ steps locked. IsMadeBy L.starts steps locked.books };
+    ghost tells = { λ steps locked. IsToldBy L.starts steps locked };
 
     ghost news = { λ locked. last_steps locked };
 }

@@ -14,13 +14,12 @@ use crate::workers::{MAX_WORKERS, empty_slots, fill_slots, room_for, serve_slots
 use conn_pool::Tape;
 use gear_parts::{Common, Gear};
 use jk_io::{Clock, Dial, Door, NoMemory};
-use lb_shared::{Leaving, Shelf, SiteName};
+use lb_shared::{DeskShare, Leaving, Shelf, SiteName};
 use request_log::{Format, Timed};
 use site_config::Config;
 use site_mounts::UriMap;
 use std::alloc::Global;
 use std::sync::Wait;
-use std::sync::ledger::Share;
 use std::thread::Threads;
 
 /// How idle links are looked after.
@@ -84,7 +83,7 @@ pub(crate) fn work<
     alloc: Global,
     plan: SitePlan<'_>,
     common: &Common<'s, 'r, L, G, R>,
-    share: Share<L>,
+    share: DeskShare<L>,
     gears: Vec<Gear<D, G, T, K, S, O>>,
 ) -> Result<Ran<L, Leaving<L, ()>, Gear<D, G, T, K, S, O>>, Vec<Gear<D, G, T, K, S, O>>>
 where

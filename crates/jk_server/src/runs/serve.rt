@@ -19,14 +19,13 @@ use conn_pool::{Idle, Pools, Tape, Watch};
 use gear_parts::{Common, Gear, first_moment};
 use jk_io::{Clock, Dial, Door, NoMemory, SizeList, SizeTable};
 use lb_model::MemberConfig;
-use lb_shared::{SharedSite, Shelf, Site, SiteName};
+use lb_shared::{DeskShare, SharedSite, Shelf, Site, SiteBlank, SiteName};
 use request_log::Timed;
 use site_config::{Config, Lb};
 use site_reports::books_of;
 use std::alloc::Global;
 use std::marker::Brand;
 use std::sync::Wait;
-use std::sync::ledger::{Blank, Share};
 use std::thread::Threads;
 
 /// Serves the clients of a site by a worker for each gear, which writes the log of its requests where its gear has one. The
@@ -69,12 +68,12 @@ where
 
 /// A Site for this many workers that isn't open yet, whose balancers start at this moment.
 fn new_site(alloc: Global, plan: SitePlan<'_>, at: u64, workers: usize) -> Result<NewSite, NoMemory>
-    ensures parts { IfOk result (λ new. new.blank.parts ≡ workers) }
+    ensures parts { IfOk result (λ new. (new.blank.entries.parts ≡ workers) × (new.blank.cuts.parts ≡ workers)) }
     ensures at { IfOk result (λ new. new.at ≡ at) }
     ensures books { IfOk result (λ new. AreStarts plan.entry.cfg.now.lbs new.at 0 new.books) }
 {
     Ok(NewSite {
-        blank: Blank::new(workers as u64),
+        blank: SiteBlank::new(workers as u64),
         books: books_of(alloc, plan.cfg.lbs.as_slice(), at, 0)?,
         at,
     })
@@ -147,7 +146,7 @@ fn over_site<
 ) -> Result<SiteRun<L, Gear<D, G, T, K, S, O>>, Vec<Gear<D, G, T, K, S, O>>>
 where
     D::L: Send,
-    requires new { IsNewSite L.name L.parts L.starts L.sizes L.firsts L.cut_at plan.cut plan.cfg.now.lbs new }
+    requires new { IsNewSite L.name L.cuts_name L.parts L.starts L.sizes L.firsts L.cut_at plan.cut plan.cfg.now.lbs new }
     requires ready { AreReady T.is_idle L.parts plan.cfg.now plan.map.now (vec_len gears) gears.items }
     ensures ran { let told = run_tells D.Door T.Tape K.Clock D.L.Meanings S.Shelf O.Meanings D.L.may_wait in
         IfOk result (RunsStarted told plan.entry new.at gears.items) }
@@ -181,16 +180,15 @@ fn shared_site<'r, L: SiteName, R>(
     alloc: Global,
     plan: SitePlan<'_>,
     new: NewSite,
-) -> Result<(SharedSite<'r, L, R>, Share<L>), NoMemory>
-    requires { IsNewSite L.name L.parts L.starts L.sizes L.firsts L.cut_at plan.cut plan.cfg.now.lbs new }
+) -> Result<(SharedSite<'r, L, R>, DeskShare<L>), NoMemory>
+    requires { IsNewSite L.name L.cuts_name L.parts L.starts L.sizes L.firsts L.cut_at plan.cut plan.cfg.now.lbs new }
     ensures { IfOk result (λ x. (x.1.parts ≡ L.parts) × (x.1.amount ≡ 0)) }
 {
     let NewSite {
-        blank,
+        blank: SiteBlank { entries, cuts },
         books,
         at: _,
     } = new;
-    let (site, share) = Site::<L>::open(blank, books);
-    let shared = SharedSite::new(rt, alloc, site, plan.cut)?;
-    Ok((shared, share))
+    let (site, share) = Site::<L>::open(entries, books);
+    SharedSite::new(rt, alloc, site, share, cuts, plan.cut)
 }

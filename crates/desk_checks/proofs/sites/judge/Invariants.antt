@@ -8,4 +8,4 @@ abbrev pub ghosts-judge_site-L-Ledger : goal.ghosts-judge_site-L-Ledger
 ghosts-judge_site-L-Ledger g a = record { name = a.blank.name; parts = a.blank.parts }
 
 abbrev pub ghosts-judge_site-L-SiteName : goal.ghosts-judge_site-L-SiteName
-ghosts-judge_site-L-SiteName g a = record { starts = a.fresh.book.opening ∷ []; sizes = members a.fresh.book.opening ∷ []; firsts = next_number a.fresh.book ∷ []; cut_at = 0 }
+ghosts-judge_site-L-SiteName g a = record { starts = a.fresh.book.opening ∷ []; sizes = members a.fresh.book.opening ∷ []; firsts = next_number a.fresh.book ∷ []; cut_at = 0; cuts_name = 0 }

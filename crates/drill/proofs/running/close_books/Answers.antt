@@ -14,5 +14,5 @@ returns-clause-once g c = c.in_ok-books.ensures.once c.requires.none_forgot
 pub returns-clause-counted : goal.returns-clause-counted
 returns-clause-counted g c =
     c.in_ok-books.ensures.counted
-    ∙ all_receipts {A = Leaving g.row.L.Denot MemShelf g.L.SiteName} (λ l. l.share.amount) (λ l. length l.receipts) (λ l. l.forgotten) _
+    ∙ all_receipts {A = Leaving g.row.L.Denot MemShelf} (λ l. l.share.amount) (λ l. length l.receipts) (λ l. l.forgotten) _
     (λ l. l.counted) c.requires.none_forgot

@@ -27,7 +27,7 @@ slots-preserved g c =
       whole = All-rest {X = Slot g.row.L.Denot g.row.R.Denot} (λ s. IsWholeDesk (2 ∷ []) s.desk.desk) _ _ _ first inv.whole;
       parts =
           let sum =
-          ap (sum_by {X = Leaving g.row.L.Denot MemShelf g.L.SiteName} (λ x. x.share.parts)) pushed
+          ap (sum_by {X = Leaving g.row.L.Denot MemShelf} (λ x. x.share.parts)) pushed
           ∙ sum_by_push (λ x. x.share.parts) c.slots.leaving.items c.leave.result in
           omega (arith, sum, part, rest, inv.parts);
       count = omega (arith, more, length-append c.slots.leaving.items (c.leave.result ∷ []), rest, inv.count);

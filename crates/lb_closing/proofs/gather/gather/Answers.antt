@@ -9,6 +9,9 @@ returns-in_err-all-clause-parts g c = if_refused c.from_residual.result _ _ c.fr
 pub returns-in_err-all-clause-amount : goal.returns-in_err-all-clause-amount
 returns-in_err-all-clause-amount g c = if_refused c.from_residual.result _ _ c.from_residual.ensures.1
 
+pub returns-in_err-all-clause-cuts : goal.returns-in_err-all-clause-cuts
+returns-in_err-all-clause-cuts g c = if_refused c.from_residual.result _ _ c.from_residual.ensures.1
+
 pub returns-in_err-all-clause-noted : goal.returns-in_err-all-clause-noted
 returns-in_err-all-clause-noted g c = if_refused c.from_residual.result _ _ c.from_residual.ensures.1
 
@@ -27,6 +30,9 @@ returns-in_err-take_all-clause-parts g c = if_refused c.from_residual-in_err-tak
 pub returns-in_err-take_all-clause-amount : goal.returns-in_err-take_all-clause-amount
 returns-in_err-take_all-clause-amount g c = if_refused c.from_residual-in_err-take_all.result _ _ c.from_residual-in_err-take_all.ensures.1
 
+pub returns-in_err-take_all-clause-cuts : goal.returns-in_err-take_all-clause-cuts
+returns-in_err-take_all-clause-cuts g c = if_refused c.from_residual-in_err-take_all.result _ _ c.from_residual-in_err-take_all.ensures.1
+
 pub returns-in_err-take_all-clause-noted : goal.returns-in_err-take_all-clause-noted
 returns-in_err-take_all-clause-noted g c = if_refused c.from_residual-in_err-take_all.result _ _ c.from_residual-in_err-take_all.ensures.1
 
@@ -44,6 +50,9 @@ returns-clause-parts g c = sum_of _ _ _ _ _ _ c.split_first-first.ensures c.in_o
 
 pub returns-clause-amount : goal.returns-clause-amount
 returns-clause-amount g c = sum_of _ _ _ _ _ _ c.split_first-first.ensures c.in_ok-all.ensures.amount c.in_ok-take_all.ensures.amount
+
+pub returns-clause-cuts : goal.returns-clause-cuts
+returns-clause-cuts g c = sum_of _ _ _ _ _ _ c.split_first-first.ensures c.in_ok-all.ensures.cuts c.in_ok-take_all.ensures.cuts
 
 pub returns-clause-noted : goal.returns-clause-noted
 returns-clause-noted g c = noted_of _ _ _ _ _ _ c.split_first-first.ensures c.in_ok-all.ensures.noted c.in_ok-take_all.ensures.noted

@@ -14,6 +14,7 @@ loop-left-init g c =
     record {
       parts = ap (λ (xs : List _). c.args.all.now.share.parts + sum_by (λ x. x.share.parts) xs) is;
       amount = ap (λ (xs : List _). c.args.all.now.share.amount + sum_by (λ x. x.share.amount) xs) is;
+      cuts = ap (λ (xs : List _). c.args.all.now.cuts.amount + sum_by (λ x. x.cuts.amount) xs) is;
       noted = ap (λ (xs : List _). c.args.all.now.noted.items ++ noted (flat_map (λ x. x.receipts) xs)) is;
       shelves = ap (λ (xs : List _). c.args.all.now.shelves.items ++ map (λ x. x.shelf) xs) is;
       seats = ap (λ (xs : List _). c.args.all.now.seats.items ++ map (λ x. x.seat) xs) is;
@@ -29,6 +30,7 @@ loop-left-preserved g c =
     record {
       parts = sum_step _ _ _ _ _ _ _ I.parts is c.take.ensures.parts;
       amount = sum_step _ _ _ _ _ _ _ I.amount is c.take.ensures.amount;
+      cuts = sum_step _ _ _ _ _ _ _ I.cuts is c.take.ensures.cuts;
       noted = noted_step _ _ _ _ _ _ _ I.noted is c.in_ok-take.ensures.noted;
       shelves = map_step _ _ _ _ _ _ _ I.shelves is c.in_ok-take.ensures.shelves;
       seats = map_step _ _ _ _ _ _ _ I.seats is c.in_ok-take.ensures.seats;
@@ -61,6 +63,9 @@ returns-in_err-take-clause-parts g c = if_refused c.from_residual.result _ _ c.f
 pub returns-in_err-take-clause-amount : goal.returns-in_err-take-clause-amount
 returns-in_err-take-clause-amount g c = if_refused c.from_residual.result _ _ c.from_residual.ensures.1
 
+pub returns-in_err-take-clause-cuts : goal.returns-in_err-take-clause-cuts
+returns-in_err-take-clause-cuts g c = if_refused c.from_residual.result _ _ c.from_residual.ensures.1
+
 pub returns-in_err-take-clause-noted : goal.returns-in_err-take-clause-noted
 returns-in_err-take-clause-noted g c = if_refused c.from_residual.result _ _ c.from_residual.ensures.1
 
@@ -78,6 +83,9 @@ returns-clause-parts g c = sum_end _ _ _ _ c.loop-left.invariant.parts (no_items
 
 pub returns-clause-amount : goal.returns-clause-amount
 returns-clause-amount g c = sum_end _ _ _ _ c.loop-left.invariant.amount (no_items c.loop-left.left-iterator.rest.items (omega (arith, c.in-None.ensures.steps.0, c.loop-left.left-iterator.rest.ok.0)))
+
+pub returns-clause-cuts : goal.returns-clause-cuts
+returns-clause-cuts g c = sum_end _ _ _ _ c.loop-left.invariant.cuts (no_items c.loop-left.left-iterator.rest.items (omega (arith, c.in-None.ensures.steps.0, c.loop-left.left-iterator.rest.ok.0)))
 
 pub returns-clause-noted : goal.returns-clause-noted
 returns-clause-noted g c = noted_end _ _ _ _ c.loop-left.invariant.noted (no_items c.loop-left.left-iterator.rest.items (omega (arith, c.in-None.ensures.steps.0, c.loop-left.left-iterator.rest.ok.0)))

@@ -1,4 +1,4 @@
-use Rattle.std.proofs.Common.{refl, ◌∙◌}
+use Rattle.std.proofs.Common.{refl, sym, ◌∙◌}
 use Rattle.client_session.specs.Requests.{visit}
 use Rattle.jk_io.specs.Doors.{side}
 use Rattle.gear_parts.specs.Gears.{gear_side}
@@ -9,8 +9,7 @@ use Rattle.jk_server.proofs.runs.serve.serve_gears.Goals as goal
 
 pub over_site-requires-clause-new : goal.over_site-requires-clause-new
 over_site-requires-clause-new g c = λ κs within. record {
-  named = refl;
-  whole = refl;
+  blank = record { named = refl; whole = refl; cuts_named = refl; cuts_whole = c.in-Ok.ensures.parts.1 ∙ sym c.in-Ok.ensures.parts.0 };
   sized = refl;
   numbered = refl;
   cut_so = refl;
@@ -20,7 +19,7 @@ over_site-requires-clause-new g c = λ κs within. record {
 
 pub over_site-requires-clause-ready : goal.over_site-requires-clause-ready
 over_site-requires-clause-ready g c = λ κs within. record {
-  each = c.in-Ok.ensures.parts ∙ c.len.ensures;
+  each = c.in-Ok.ensures.parts.0 ∙ c.len.ensures;
   some = some_so _ _ c.first_moment-at.ensures.len c.requires.some;
   few = few_so _ _ _ c.first_moment-at.ensures.len c.requires.few;
   stands = c.requires.stands;

@@ -8,10 +8,10 @@ use Rattle.jk_server.proofs.BookLaws.{new_added, new_count, new_empty, new_fresh
 use Rattle.jk_server.proofs.runs.serve.shared_site.Goals as goal
 
 pub open-site-requires-clause-name : goal.open-site-requires-clause-name
-open-site-requires-clause-name g c = c.requires.named
+open-site-requires-clause-name g c = c.requires.blank.named
 
 pub open-site-requires-clause-parts : goal.open-site-requires-clause-parts
-open-site-requires-clause-parts g c = c.requires.whole
+open-site-requires-clause-parts g c = c.requires.blank.whole
 
 pub open-site-requires-clause-sizes : goal.open-site-requires-clause-sizes
 open-site-requires-clause-sizes g c =

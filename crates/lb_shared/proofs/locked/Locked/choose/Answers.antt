@@ -72,4 +72,4 @@ returns-clause-err g c =
 pub returns-in-Err-clause-news : goal.returns-in-Err-clause-news
 returns-in-Err-clause-news g c =
     let none : 0 ≡ length c.args.account.now.receipts.items - length c.args.account.now.receipts.items = omega arith in
-    (ap (λ (s : LockedState). s.lb) c.in-Err.ensures.err, ap (λ (s : LockedState). s.count) c.in-Err.ensures.err ∙ none, ap (λ (s : LockedState). s.cut) c.in-Err.ensures.err)
+    (ap (λ (s : LockedState). s.lb) c.in-Err.ensures.err, ap (λ (s : LockedState). s.count) c.in-Err.ensures.err ∙ none, ap (λ (s : LockedState). s.cut) c.in-Err.ensures.err, ap (λ (s : LockedState). s.cuts) c.in-Err.ensures.err ∙ ap (λ (s : LockedState). s.cuts) c.self.view_is)

@@ -16,4 +16,4 @@ returns-clause-when g c =
 
 pub returns-clause-news : goal.returns-clause-news
 returns-clause-news g c =
-    (c.take_back-done.ensures.news.0, c.take_back-done.ensures.news.1, c.take_back-done.ensures.uncut ∙ c.cut_first-cut.ensures.told)
+    (c.take_back-done.ensures.news.0, c.take_back-done.ensures.news.1, c.take_back-done.ensures.uncut ∙ c.cut_first-cut.ensures.told, c.take_back-done.ensures.uncounted ∙ c.cut_first-cut.ensures.counted)

@@ -64,8 +64,9 @@ returns g c =
     let none = no_seats c.loop-other.other-iterator.rest.items (omega (arith, c.in-None.ensures.steps.0, c.loop-other.other-iterator.rest.ok.0)) in
     let all : I.done ≡ c.args.seats = sym (append-nil I.done) ∙ ap (λ (ss : List SeatNote). I.done ++ ss) (sym none) ∙ I.split in
     let claims = ap (λ m. m.0.claims) I.joined ∙ ap (λ (ss : List SeatNote). record { number = I.number; seen = [] } ∷ map claim_of ss) all in
-    closed_by g.L.SiteName.starts c.into_site.result c.close.ensures.log (record { number = I.number; seen = [] }) c.args.seats
-    (subst (λ (bs : List Journal). IsMadeBy g.L.SiteName.starts c.close.ensures.log bs) (sym c.into_site.ensures) c.close.ensures.told)
+    closed_by g.L.SiteName.starts c.into_site.result c.args.cuts.amount c.close.ensures.log (record { number = I.number; seen = [] }) c.args.seats
+    (subst (λ (bs : List Journal). IsMadeBy g.L.SiteName.starts c.close.ensures.log bs) (sym c.into_site.ensures.books) c.close.ensures.told.0)
+    (sym c.close.ensures.told.1 ∙ sym c.into_site.ensures.counted)
     (subst (λ (ss : List SeatNote). All (IsTold g.L.SiteName.starts) ss) all I.told)
     (subst (λ (cs : List (Claim Step)). (k : ℕ) (x : Claim Step) → get_elem? cs k ≡ some x → IsClaim c.close.ensures.log x) claims c.close.ensures.true_of)
     (subst (λ (cs : List (Claim Step)). AreApart cs) claims c.close.ensures.apart)

@@ -3,10 +3,10 @@ use Rattle.std.proofs.Common.{◌≡◌, ℕ, ◌+◌, ◌≤◌, List, ◌∷�
 use Rattle.std.specs.Prelude.{IfErr, IfOk, OnErr, vec_capacity}
 use Rattle.atomic_table.specs.Table.{rest}
 use Rattle.lb_book.specs.declared.receipt.Receipt.{Receipt}
-use Rattle.lb_shared.specs.Histories.{SeatSees, gained_in}
+use Rattle.lb_shared.specs.Histories.{SeatSees, gained_in, seat_note}
 use Rattle.lb_shared.specs.Holds.{held}
 use Rattle.lb_shared.specs.SharedDesks.{pairs_of}
-use Rattle.lb_shared.proofs.CountLaws.{count_sees}
+use Rattle.lb_shared.proofs.CountLaws.{count_cuts, count_sees}
 use Rattle.lb_shared.proofs.JournalLaws.{choose_history}
 use Rattle.lb_shared.proofs.SeatLaws.{desk_sees, seat_cuts, seat_sees, told_last}
 use Rattle.lb_shared.proofs.SharedLaws.{ChoseErr, ChoseOk, cut_choose, err_choose, gained_choose, kept_choose, next_choose, none_desk, ok_choose, two_chosen}
@@ -126,12 +126,19 @@ invariant_of-self-2 g c =
     let roomy : length c.self.inside.account.receipts.items + length c.self.inside.held.items + 3 ≤ vec_capacity c.choose-done.new.account.receipts =
     omega (arith, c.in-Ok.ensures.room, c.choose-done.ensures.kept.1, c.self.inside.account.receipts.ok.0, c.self.inside.held.ok.0) in
     let after = kept_choose (length g.L.SiteName.sizes) c.args.on.lb c.self.inside.account.receipts.items c.choose-done.new.account.receipts.items c.self.inside.held.items c.hold_pair.new.held.items c.self.inside.account.share.parts c.choose-done.new.account.share.parts c.self.inside.account.share.amount c.choose-done.new.account.share.amount
-    (vec_capacity c.self.inside.account.receipts) (vec_capacity c.choose-done.new.account.receipts) c.choose-done.result.1 c.requires.known gained tickets same c.choose-done.ensures.few parts roomy c.self.inside.forgotten c.self.invariant.0 in (
+    (vec_capacity c.self.inside.account.receipts) (vec_capacity c.choose-done.new.account.receipts) c.choose-done.result.1 c.requires.known gained tickets same c.choose-done.ensures.few parts roomy c.self.inside.forgotten c.self.invariant.0 in
+    let cuts = seat_cuts g.L.SiteName.starts c.self.inside.seat.me c.enter.new.seat.me c.self.invariant.2 c.enter.ensures.took
+    c.slot_mut.result.now c.slot_mut.ensures.value c.in-Some.locked c.in-Some.is c.choose-done.new.self
+    c.take_room.new.account.receipts.items c.choose-done.new.account.receipts.items c.args.on.lb c.choose-done.result.0 c.choose-done.ensures.news
+    (λ n steps was.
+    choose_history g.L.SiteName.starts n steps g.L.SiteName.sizes g.L.SiteName.firsts c.in-Some.locked.books (held c.choose-done.new.self.books c.choose-done.new.account.receipts.items c.choose-done.new.account.share.amount) c.take_room.new.account.receipts.items c.take_room.new.account.share.amount c.args.on c.args.ask.now c.choose-done.result.0 c.choose-done.result.1 c.requires.known c.choose-done.ensures.ok c.choose-done.ensures.err was) c.leave.new.seat.me c.leave.ensures.left c.self.inside.seat.table_id c.leave.new.seat.table_id in (
       after,
       c.leave.ensures.of ∙ c.enter.ensures.of ∙ c.self.invariant.1,
       seen.rests,
       count_sees g.L.SiteName.starts c.self.inside.seat.table_id c.leave.new.seat.table_id c.self.inside.seat.me c.leave.new.seat.me c.self.inside.account.receipts.items c.choose-done.new.account.receipts.items c.self.inside.account.share.amount c.choose-done.new.account.share.amount c.self.inside.forgotten seen (gained.0, gained.1) c.self.invariant.0.counted after.counted
           c.self.invariant.3,
+      count_cuts (seat_note g.L.SiteName.starts c.self.inside.seat.table_id c.self.inside.seat.me) (seat_note g.L.SiteName.starts c.leave.new.seat.table_id c.leave.new.seat.me) c.choose-done.result.0 _ _ cuts c.choose-done.ensures.counted c.self.invariant.4,
+      c.choose-done.ensures.parts ∙ c.self.invariant.5 ∙ sym parts,
     )
 
 pub returns-in-Err-clause-err : goal.returns-in-Err-clause-err

@@ -3,9 +3,10 @@ use Rattle.std.proofs.Common.{◌≡◌, ℕ, true, ◌∷◌, length, Some, sub
 use Rattle.std.specs.Prelude.{vec_capacity}
 use Rattle.atomic_table.specs.Table.{rest}
 use Rattle.lb_book.specs.Desks.{holds, without_last}
+use Rattle.lb_shared.specs.Histories.{seat_note}
 use Rattle.lb_shared.specs.Holds.{cut_in, held}
 use Rattle.lb_shared.specs.Stakes.{StakeState}
-use Rattle.lb_shared.proofs.CountLaws.{count_returned}
+use Rattle.lb_shared.proofs.CountLaws.{count_cuts, count_returned}
 use Rattle.lb_shared.proofs.JournalLaws.{back_history}
 use Rattle.lb_shared.proofs.SeatLaws.{desk_sees, seat_cuts, seat_sees, told_last}
 use Rattle.lb_shared.proofs.SharedLaws.{back_amount, back_err, back_length, back_ok, cut_back, held-some, known_held, next_back, one_back, shared_returned}
@@ -110,10 +111,17 @@ invariant_of-self g c =
     let amount = back_amount g.L.SiteName.sizes g.L.SiteName.firsts c.in-Some.locked.books c.give_back-done.new.self.books (cut_in c.give_back-done.result.0) c.self.inside.account.receipts.items c.give_back-done.new.account.receipts.items c.self.inside.account.share.amount c.give_back-done.new.account.share.amount c.args.back.session c.args.back.at c.args.back.lease c.args.back.outcome c.give_back-done.result.1 c.give_back-done.ensures.ok in
     let err = back_err g.L.SiteName.sizes g.L.SiteName.firsts c.in-Some.locked.books c.give_back-done.new.self.books (cut_in c.give_back-done.result.0) c.self.inside.account.receipts.items c.give_back-done.new.account.receipts.items c.self.inside.account.share.amount c.give_back-done.new.account.share.amount c.args.back.session c.args.back.at c.args.back.lease c.args.back.outcome c.give_back-done.result.1 c.give_back-done.ensures.err in
     let without = subst (λ (n : ℕ). c.take_last.new.held.items ≡ without_last c.self.inside.held.items (c.args.back.lease.lb, n)) c.ticket-ticket.ensures
-    (subst (λ (n : ℕ). c.take_last.new.held.items ≡ without_last c.self.inside.held.items (n, c.ticket-ticket.result)) c.lb-lb.ensures c.take_last.ensures.held) in (
+    (subst (λ (n : ℕ). c.take_last.new.held.items ≡ without_last c.self.inside.held.items (n, c.ticket-ticket.result)) c.lb-lb.ensures c.take_last.ensures.held) in
+    let cuts = seat_cuts g.L.SiteName.starts c.self.inside.seat.me c.enter.new.seat.me c.self.invariant.2 c.enter.ensures.took
+    c.slot_mut.result.now c.slot_mut.ensures.value c.in-Some.locked c.in-Some.is c.give_back-done.new.self
+    c.self.inside.account.receipts.items c.give_back-done.new.account.receipts.items c.args.back.lease.lb (cut_in c.give_back-done.result.0) c.give_back-done.ensures.news
+    (λ n steps was.
+    back_history g.L.SiteName.starts n steps g.L.SiteName.sizes g.L.SiteName.firsts c.in-Some.locked.books (held c.give_back-done.new.self.books c.give_back-done.new.account.receipts.items c.give_back-done.new.account.share.amount) c.self.inside.account.receipts.items c.self.inside.account.share.amount c.args.back.session c.args.back.at c.args.back.lease c.args.back.outcome (cut_in c.give_back-done.result.0) c.give_back-done.result.1 known c.give_back-done.ensures.ok c.give_back-done.ensures.err was) c.leave.new.seat.me c.leave.ensures.left c.self.inside.seat.table_id c.leave.new.seat.table_id in (
       shared_returned _ c.self.inside.account.receipts.items c.give_back-done.new.account.receipts.items c.self.inside.held.items c.take_last.new.held.items (c.args.back.lease.lb, c.args.back.lease.ticket) c.self.inside.account.share.parts c.give_back-done.new.account.share.parts c.self.inside.account.share.amount c.give_back-done.new.account.share.amount c.self.inside.forgotten
           (vec_capacity c.self.inside.account.receipts) (vec_capacity c.give_back-done.new.account.receipts) c.give_back-done.result.1 c.self.invariant.0 had length amount err c.give_back-done.ensures.few c.give_back-done.ensures.kept.0 without c.give_back-done.ensures.kept.1,
       c.leave.ensures.of ∙ c.enter.ensures.of ∙ c.self.invariant.1,
       sees.rests,
       count_returned g.L.SiteName.starts c.self.inside.seat.table_id c.leave.new.seat.table_id c.self.inside.seat.me c.leave.new.seat.me c.self.inside.account.receipts.items c.give_back-done.new.account.receipts.items c.self.inside.account.share.amount c.give_back-done.new.account.share.amount c.give_back-done.result.1 sees length amount err c.self.invariant.3,
+      count_cuts (seat_note g.L.SiteName.starts c.self.inside.seat.table_id c.self.inside.seat.me) (seat_note g.L.SiteName.starts c.leave.new.seat.table_id c.leave.new.seat.me) (cut_in c.give_back-done.result.0) _ _ cuts c.give_back-done.ensures.counted c.self.invariant.4,
+      c.give_back-done.ensures.parts ∙ c.self.invariant.5 ∙ sym c.give_back-done.ensures.kept.0,
     )

@@ -4,8 +4,9 @@ use Rattle.std.specs.Prelude.{IfOk}
 use Rattle.atomic_table.specs.Table.{rest}
 use Rattle.lb_model.specs.Present.{IsPresent}
 use Rattle.lb_book.specs.Journal.{Journal, past_of}
+use Rattle.lb_shared.specs.Histories.{seat_note}
 use Rattle.lb_shared.specs.Sites.{AreSited, At}
-use Rattle.lb_shared.proofs.CountLaws.{count_looked}
+use Rattle.lb_shared.proofs.CountLaws.{count_cuts, count_looked}
 use Rattle.lb_shared.proofs.HistoryLaws.{present_history}
 use Rattle.lb_shared.proofs.JournalLaws.{look_history}
 use Rattle.lb_shared.proofs.SeatLaws.{desk_sees, seat_cuts, seat_sees, seen_last, told_last}
@@ -20,14 +21,14 @@ pub leave-requires-clause-told : goal.leave-requires-clause-told
 leave-requires-clause-told g c =
     told_last g.L.SiteName.starts c.self.inside.seat.me c.enter.new.seat.me c.self.invariant.2 c.enter.ensures.took
     c.slot_mut.result.now c.slot_mut.ensures.value c.in-Some.locked c.in-Some.is c.look-done.new.self [] [] c.look-done.new.self.lb None
-    (refl, c.look-done.ensures.news.0, c.look-done.ensures.news.1)
+    (refl, c.look-done.ensures.news.0, c.look-done.ensures.news.1, c.look-done.ensures.news.2)
     (λ n steps was. look_history g.L.SiteName.starts n steps c.look-done.new.self.lb c.in-Some.locked.books c.look-done.new.self.books c.look-done.ensures.same was)
 
 pub returns-clause-sees : goal.returns-clause-sees
 returns-clause-sees g c =
     let sees = seat_sees g.L.SiteName.starts c.self.inside.seat.me c.enter.new.seat.me c.self.invariant.2 c.enter.ensures.took
     c.slot_mut.result.now c.slot_mut.ensures.value c.in-Some.locked c.in-Some.is c.look-done.new.self [] [] c.look-done.new.self.lb None
-    (refl, c.look-done.ensures.news.0, c.look-done.ensures.news.1)
+    (refl, c.look-done.ensures.news.0, c.look-done.ensures.news.1, c.look-done.ensures.news.2)
     (λ n steps was. look_history g.L.SiteName.starts n steps c.look-done.new.self.lb c.in-Some.locked.books c.look-done.new.self.books c.look-done.ensures.same was) c.leave.new.seat.me c.leave.ensures.left in
     rw (sym c.self.view_is) (desk_sees g.L.SiteName.starts _ _ _ _ c.self.inside.seat.me c.leave.new.seat.me _ (c.leave.ensures.of ∙ c.enter.ensures.of) sees)
 
@@ -36,15 +37,19 @@ returns-clause-marks g c =
     rw (sym c.self.view_is)
     (seat_cuts g.L.SiteName.starts c.self.inside.seat.me c.enter.new.seat.me c.self.invariant.2 c.enter.ensures.took
     c.slot_mut.result.now c.slot_mut.ensures.value c.in-Some.locked c.in-Some.is c.look-done.new.self [] [] c.look-done.new.self.lb None
-    (refl, c.look-done.ensures.news.0, c.look-done.ensures.news.1)
+    (refl, c.look-done.ensures.news.0, c.look-done.ensures.news.1, c.look-done.ensures.news.2)
     (λ n steps was. look_history g.L.SiteName.starts n steps c.look-done.new.self.lb c.in-Some.locked.books c.look-done.new.self.books c.look-done.ensures.same was) c.leave.new.seat.me c.leave.ensures.left c.self.inside.seat.table_id c.leave.new.seat.table_id)
 
 pub invariant_of-self : goal.invariant_of-self
 invariant_of-self g c =
     let sees = seat_sees g.L.SiteName.starts c.self.inside.seat.me c.enter.new.seat.me c.self.invariant.2 c.enter.ensures.took
     c.slot_mut.result.now c.slot_mut.ensures.value c.in-Some.locked c.in-Some.is c.look-done.new.self [] [] c.look-done.new.self.lb None
-    (refl, c.look-done.ensures.news.0, c.look-done.ensures.news.1)
-    (λ n steps was. look_history g.L.SiteName.starts n steps c.look-done.new.self.lb c.in-Some.locked.books c.look-done.new.self.books c.look-done.ensures.same was) c.leave.new.seat.me c.leave.ensures.left in (
+    (refl, c.look-done.ensures.news.0, c.look-done.ensures.news.1, c.look-done.ensures.news.2)
+    (λ n steps was. look_history g.L.SiteName.starts n steps c.look-done.new.self.lb c.in-Some.locked.books c.look-done.new.self.books c.look-done.ensures.same was) c.leave.new.seat.me c.leave.ensures.left in
+    let cuts = seat_cuts g.L.SiteName.starts c.self.inside.seat.me c.enter.new.seat.me c.self.invariant.2 c.enter.ensures.took
+    c.slot_mut.result.now c.slot_mut.ensures.value c.in-Some.locked c.in-Some.is c.look-done.new.self [] [] c.look-done.new.self.lb None
+    (refl, c.look-done.ensures.news.0, c.look-done.ensures.news.1, c.look-done.ensures.news.2)
+    (λ n steps was. look_history g.L.SiteName.starts n steps c.look-done.new.self.lb c.in-Some.locked.books c.look-done.new.self.books c.look-done.ensures.same was) c.leave.new.seat.me c.leave.ensures.left c.self.inside.seat.table_id c.leave.new.seat.table_id in (
       record {
         part = rw c.look-done.ensures.parts c.self.invariant.0.part;
         counted = c.look-done.ensures.amount ∙ c.self.invariant.0.counted;
@@ -55,13 +60,15 @@ invariant_of-self g c =
       c.leave.ensures.of ∙ c.enter.ensures.of ∙ c.self.invariant.1,
       sees.rests,
       count_looked g.L.SiteName.starts c.self.inside.seat.table_id c.leave.new.seat.table_id c.self.inside.seat.me c.leave.new.seat.me _ _ sees c.look-done.ensures.amount c.self.invariant.3,
+      count_cuts (seat_note g.L.SiteName.starts c.self.inside.seat.table_id c.self.inside.seat.me) (seat_note g.L.SiteName.starts c.leave.new.seat.table_id c.leave.new.seat.me) None _ _ cuts refl c.self.invariant.4,
+      c.self.invariant.5 ∙ sym c.look-done.ensures.parts,
     )
 
 pub returns-clause-whole : goal.returns-clause-whole
 returns-clause-whole g c =
     let last = seen_last g.L.SiteName.starts c.self.inside.seat.me c.enter.new.seat.me c.self.invariant.2 c.enter.ensures.took
     c.slot_mut.result.now c.slot_mut.ensures.value c.in-Some.locked c.in-Some.is c.look-done.new.self [] [] c.look-done.new.self.lb None
-    (refl, c.look-done.ensures.news.0, c.look-done.ensures.news.1)
+    (refl, c.look-done.ensures.news.0, c.look-done.ensures.news.1, c.look-done.ensures.news.2)
     (λ n steps was. look_history g.L.SiteName.starts n steps c.look-done.new.self.lb c.in-Some.locked.books c.look-done.new.self.books c.look-done.ensures.same was) c.leave.new.seat.me c.leave.ensures.left in
     let sited = subst (λ (xs : List Journal). AreSited g.L.SiteName.sizes g.L.SiteName.firsts xs) (sym c.look-done.ensures.same) c.look-done.ensures.sited in
     let shown = subst (λ (xs : List Journal). IfOk c.look-done.result (λ v. At xs c.args.lb (λ (b : Journal). IsPresent b.rules b.opening (past_of b) v.view))) (sym c.look-done.ensures.same) c.look-done.ensures.shown in
