@@ -1,38 +1,26 @@
 -- A noted read and a noted write of the running talk's link: its tape, its faults and the link afterwards.
-use Rattle.std.proofs.Common.{◌≡◌, ℕ, ◌<◌, ◌≤◌, true, List, take, length, Result, Ok, Err, IsErrAnd, refl, sym, ◌∙◌, subst, arith}
-use Rattle.std.specs.Prelude.{Option, IfOk, OnOk, OnErr, IsOk, IsErrOf}
+use Rattle.std.proofs.Common.{◌≡◌, ℕ, ◌<◌, ◌≤◌, List, take, length, Result, Ok, Err, IsErrAnd, refl, sym, ◌∙◌, subst, arith}
+use Rattle.std.specs.Prelude.{Option, IfOk, OnErr, IsOk}
 use Rattle.jk_io.specs.Told.{appended, HasCause}
 use Rattle.jk_io.specs.declared.failures.IoError.{IoError}
 use Rattle.jk_io.specs.declared.failures.IoError.TheVariants as Io
-use Rattle.conn_pool.specs.Reaches.{LentState, ReadsLink, WritesLink, StaysLent}
+use Rattle.conn_pool.specs.Reaches.{LentState, MarksRefusal, ReadsLink, ReadsNoted, StaysLent, WritesLink, WritesNoted}
 
 -- a call of the link itself, marked where it was refused
-pub stays : {L : Type 0} (before after : LentState L) (result : Result ℕ IoError) → after ≡ record before { link = after.link; faulty = after.faulty }
-    → OnOk result (after.faulty ≡ before.faulty) → OnErr result (after.faulty ≡ true) → StaysLent before after result
-stays before after (Ok n) same ok err = record { same = same; ok = ok; failed = λ is. cc; marked = λ marked. ok ∙ marked }
-stays before after (Err e) same ok err = record { same = same; ok = tt; failed = λ _. err; marked = λ _. err }
-
--- what is told of a noted read: of the tape's bytes, the count of faults and the talk's link
-pub record NotedRead {L : Type 0} (before after : LentState L) (received received' : Option (List ℕ)) (count count' : ℕ) (buf : List ℕ) (result : Result ℕ IoError) : Type 0 where
-  pub within : IfOk result (λ n. n ≤ length buf)
-  pub got : IfOk result (λ n. received' ≡ appended received (take n buf))
-  pub kept_on_error : OnErr result (received' ≡ received)
-  pub cause : HasCause count count' result
-  pub steady : IsOk result → count' ≡ count
-  pub wanted : IsErrOf result Io.NoMemory → count' ≡ count
-  pub talk : ReadsLink before.link after.link buf result × StaysLent before after result
+pub stays : {L : Type 0} (before after : LentState L) (result : Result ℕ IoError) → MarksRefusal before after result → StaysLent before after result
+stays before after (Ok n) marks = record { same = marks.same; ok = marks.ok; failed = λ is. cc; marked = λ marked. marks.ok ∙ marked }
+stays before after (Err e) marks = record { same = marks.same; ok = tt; failed = λ _. marks.err; marked = λ _. marks.err }
 
 -- no memory for the note of a read
 pub unread : {L : Type 0} (lent : LentState L) (received received' : Option (List ℕ)) (count : ℕ) (buf : List ℕ) (result : Result ℕ IoError)
-    → received' ≡ received → IsErrAnd result (λ e. e ≡ Io.NoMemory) → NotedRead lent lent received received' count count buf result
+    → received' ≡ received → IsErrAnd result (λ e. e ≡ Io.NoMemory) → ReadsNoted lent lent received received' count count buf result
 unread lent received received' count buf (Ok n) same wanted = absurd wanted
 unread lent received received' count buf (Err e) same wanted = record {
-  within = tt;
+  count = tt;
   got = tt;
   kept_on_error = same;
   cause = record { no_fewer = omega arith; failed = λ is. cc; wanted = λ _. refl };
   steady = λ is. cc;
-  wanted = λ _. refl;
   talk = (
     record {
       gave = tt;
@@ -50,41 +38,30 @@ unread lent received received' count buf (Err e) same wanted = record {
 -- a read that the link answered so, noted where it gave bytes
 pub read_noted : {L : Type 0} (before after : LentState L) (received received' : Option (List ℕ)) (count count' : ℕ) (buf : List ℕ) (answer result : Result ℕ IoError)
     → result ≡ answer → IfOk answer (λ n. n ≤ length buf) → ReadsLink before.link after.link buf answer
-    → after ≡ record before { link = after.link; faulty = after.faulty } → OnOk answer (after.faulty ≡ before.faulty) → OnErr answer (after.faulty ≡ true)
-    → HasCause count count' answer → (IsOk answer → count' ≡ count) → (IsErrOf answer Io.NoMemory → count' ≡ count)
+    → MarksRefusal before after answer
+    → HasCause count count' answer → (IsOk answer → count' ≡ count)
     → IfOk answer (λ n. received' ≡ appended received (take n buf)) → OnErr answer (received' ≡ received)
-    → NotedRead before after received received' count count' buf result
-read_noted before after received received' count count' buf answer result is within reads same ok err cause steady wanted got kept =
-    subst (λ (r : Result ℕ IoError). NotedRead before after received received' count count' buf r) (sym is) (record {
-      within = within;
+    → ReadsNoted before after received received' count count' buf result
+read_noted before after received received' count count' buf answer result is within reads marks cause steady got kept =
+    subst (λ (r : Result ℕ IoError). ReadsNoted before after received received' count count' buf r) (sym is) (record {
+      count = within;
       got = got;
       kept_on_error = kept;
       cause = cause;
       steady = steady;
-      wanted = wanted;
-      talk = (reads, stays before after answer same ok err);
+      talk = (reads, stays before after answer marks);
     })
 
--- the same of a noted write
-pub record NotedWrite {L : Type 0} (before after : LentState L) (sent sent' : Option (List ℕ)) (count count' : ℕ) (piece : List ℕ) (result : Result ℕ IoError) : Type 0 where
-  pub within : IfOk result (λ n. (0 < n) × (n ≤ length piece))
-  pub put : IfOk result (λ n. sent' ≡ appended sent (take n piece))
-  pub kept_on_error : OnErr result (sent' ≡ sent)
-  pub cause : HasCause count count' result
-  pub steady : IsOk result → count' ≡ count
-  pub wanted : IsErrOf result Io.NoMemory → count' ≡ count
-  pub talk : WritesLink before.link after.link piece result × StaysLent before after result
-
+-- no memory for the note of a write
 pub unwritten : {L : Type 0} (lent : LentState L) (sent sent' : Option (List ℕ)) (count : ℕ) (piece : List ℕ) (result : Result ℕ IoError)
-    → sent' ≡ sent → IsErrAnd result (λ e. e ≡ Io.NoMemory) → NotedWrite lent lent sent sent' count count piece result
+    → sent' ≡ sent → IsErrAnd result (λ e. e ≡ Io.NoMemory) → WritesNoted lent lent sent sent' count count piece result
 unwritten lent sent sent' count piece (Ok n) same wanted = absurd wanted
 unwritten lent sent sent' count piece (Err e) same wanted = record {
-  within = tt;
+  count = tt;
   put = tt;
   kept_on_error = same;
   cause = record { no_fewer = omega arith; failed = λ is. cc; wanted = λ _. refl };
   steady = λ is. cc;
-  wanted = λ _. refl;
   talk = (
     record {
       put = tt;
@@ -99,69 +76,64 @@ unwritten lent sent sent' count piece (Err e) same wanted = record {
 
 pub write_noted : {L : Type 0} (before after : LentState L) (sent sent' : Option (List ℕ)) (count count' : ℕ) (piece : List ℕ) (answer result : Result ℕ IoError)
     → result ≡ answer → IfOk answer (λ n. (0 < n) × (n ≤ length piece)) → WritesLink before.link after.link piece answer
-    → after ≡ record before { link = after.link; faulty = after.faulty } → OnOk answer (after.faulty ≡ before.faulty) → OnErr answer (after.faulty ≡ true)
-    → HasCause count count' answer → (IsOk answer → count' ≡ count) → (IsErrOf answer Io.NoMemory → count' ≡ count)
+    → MarksRefusal before after answer
+    → HasCause count count' answer → (IsOk answer → count' ≡ count)
     → IfOk answer (λ n. sent' ≡ appended sent (take n piece)) → OnErr answer (sent' ≡ sent)
-    → NotedWrite before after sent sent' count count' piece result
-write_noted before after sent sent' count count' piece answer result is within writes same ok err cause steady wanted put kept =
-    subst (λ (r : Result ℕ IoError). NotedWrite before after sent sent' count count' piece r) (sym is) (record {
-      within = within;
+    → WritesNoted before after sent sent' count count' piece result
+write_noted before after sent sent' count count' piece answer result is within writes marks cause steady put kept =
+    subst (λ (r : Result ℕ IoError). WritesNoted before after sent sent' count count' piece r) (sym is) (record {
+      count = within;
       put = put;
       kept_on_error = kept;
       cause = cause;
       steady = steady;
-      wanted = wanted;
-      talk = (writes, stays before after answer same ok err);
+      talk = (writes, stays before after answer marks);
     })
 
 -- a read that the link refused
 pub read_refused : {L : Type 0} (before after : LentState L) (received received' : Option (List ℕ)) (count count' : ℕ) (buf : List ℕ) (answer told result : Result ℕ IoError) (e : IoError)
     → told ≡ answer → IfOk answer (λ n. n ≤ length buf) → ReadsLink before.link after.link buf answer
-    → after ≡ record before { link = after.link; faulty = after.faulty } → OnOk answer (after.faulty ≡ before.faulty) → OnErr answer (after.faulty ≡ true)
-    → HasCause count count' told → (IsOk told → count' ≡ count) → (IsErrOf told Io.NoMemory → count' ≡ count)
-    → told ≡ Err e → result ≡ Err e → received' ≡ received → NotedRead before after received received' count count' buf result
-read_refused before after received received' count count' buf answer told result e same within link kept ok err cause steady wanted is ends still =
-    read_noted before after received received' count count' buf answer result (ends ∙ sym is ∙ same) within link kept ok err
+    → MarksRefusal before after answer
+    → HasCause count count' told → (IsOk told → count' ≡ count)
+    → told ≡ Err e → result ≡ Err e → received' ≡ received → ReadsNoted before after received received' count count' buf result
+read_refused before after received received' count count' buf answer told result e same within link marks cause steady is ends still =
+    read_noted before after received received' count count' buf answer result (ends ∙ sym is ∙ same) within link marks
     (subst (λ (r : Result ℕ IoError). HasCause count count' r) same cause) (subst (λ (r : Result ℕ IoError). IsOk r → count' ≡ count) same steady)
-    (subst (λ (r : Result ℕ IoError). IsErrOf r Io.NoMemory → count' ≡ count) same wanted)
     (subst (λ (r : Result ℕ IoError). IfOk r (λ n. received' ≡ appended received (take n buf))) (sym is ∙ same) tt)
     (subst (λ (r : Result ℕ IoError). OnErr r (received' ≡ received)) (sym is ∙ same) still)
 
 -- a read that the link did
 pub read_done : {L : Type 0} (before after : LentState L) (received received' : Option (List ℕ)) (count count' : ℕ) (buf : List ℕ) (answer told result : Result ℕ IoError) (n : ℕ)
     → told ≡ answer → IfOk answer (λ n. n ≤ length buf) → ReadsLink before.link after.link buf answer
-    → after ≡ record before { link = after.link; faulty = after.faulty } → OnOk answer (after.faulty ≡ before.faulty) → OnErr answer (after.faulty ≡ true)
-    → HasCause count count' told → (IsOk told → count' ≡ count) → (IsErrOf told Io.NoMemory → count' ≡ count)
-    → told ≡ Ok n → result ≡ Ok n → received' ≡ appended received (take n buf) → NotedRead before after received received' count count' buf result
-read_done before after received received' count count' buf answer told result n same within link kept ok err cause steady wanted is ends more =
-    read_noted before after received received' count count' buf answer result (ends ∙ sym is ∙ same) within link kept ok err
+    → MarksRefusal before after answer
+    → HasCause count count' told → (IsOk told → count' ≡ count)
+    → told ≡ Ok n → result ≡ Ok n → received' ≡ appended received (take n buf) → ReadsNoted before after received received' count count' buf result
+read_done before after received received' count count' buf answer told result n same within link marks cause steady is ends more =
+    read_noted before after received received' count count' buf answer result (ends ∙ sym is ∙ same) within link marks
     (subst (λ (r : Result ℕ IoError). HasCause count count' r) same cause) (subst (λ (r : Result ℕ IoError). IsOk r → count' ≡ count) same steady)
-    (subst (λ (r : Result ℕ IoError). IsErrOf r Io.NoMemory → count' ≡ count) same wanted)
     (subst (λ (r : Result ℕ IoError). IfOk r (λ (m : ℕ). received' ≡ appended received (take m buf))) (sym is ∙ same) more)
     (subst (λ (r : Result ℕ IoError). OnErr r (received' ≡ received)) (sym is ∙ same) tt)
 
 -- a write that the link refused
 pub write_refused : {L : Type 0} (before after : LentState L) (sent sent' : Option (List ℕ)) (count count' : ℕ) (piece : List ℕ) (answer told result : Result ℕ IoError) (e : IoError)
     → told ≡ answer → IfOk answer (λ n. (0 < n) × (n ≤ length piece)) → WritesLink before.link after.link piece answer
-    → after ≡ record before { link = after.link; faulty = after.faulty } → OnOk answer (after.faulty ≡ before.faulty) → OnErr answer (after.faulty ≡ true)
-    → HasCause count count' told → (IsOk told → count' ≡ count) → (IsErrOf told Io.NoMemory → count' ≡ count)
-    → told ≡ Err e → result ≡ Err e → sent' ≡ sent → NotedWrite before after sent sent' count count' piece result
-write_refused before after sent sent' count count' piece answer told result e same within link kept ok err cause steady wanted is ends still =
-    write_noted before after sent sent' count count' piece answer result (ends ∙ sym is ∙ same) within link kept ok err
+    → MarksRefusal before after answer
+    → HasCause count count' told → (IsOk told → count' ≡ count)
+    → told ≡ Err e → result ≡ Err e → sent' ≡ sent → WritesNoted before after sent sent' count count' piece result
+write_refused before after sent sent' count count' piece answer told result e same within link marks cause steady is ends still =
+    write_noted before after sent sent' count count' piece answer result (ends ∙ sym is ∙ same) within link marks
     (subst (λ (r : Result ℕ IoError). HasCause count count' r) same cause) (subst (λ (r : Result ℕ IoError). IsOk r → count' ≡ count) same steady)
-    (subst (λ (r : Result ℕ IoError). IsErrOf r Io.NoMemory → count' ≡ count) same wanted)
     (subst (λ (r : Result ℕ IoError). IfOk r (λ n. sent' ≡ appended sent (take n piece))) (sym is ∙ same) tt)
     (subst (λ (r : Result ℕ IoError). OnErr r (sent' ≡ sent)) (sym is ∙ same) still)
 
 -- a write that the link did
 pub write_done : {L : Type 0} (before after : LentState L) (sent sent' : Option (List ℕ)) (count count' : ℕ) (piece : List ℕ) (answer told result : Result ℕ IoError) (n : ℕ)
     → told ≡ answer → IfOk answer (λ n. (0 < n) × (n ≤ length piece)) → WritesLink before.link after.link piece answer
-    → after ≡ record before { link = after.link; faulty = after.faulty } → OnOk answer (after.faulty ≡ before.faulty) → OnErr answer (after.faulty ≡ true)
-    → HasCause count count' told → (IsOk told → count' ≡ count) → (IsErrOf told Io.NoMemory → count' ≡ count)
-    → told ≡ Ok n → result ≡ Ok n → sent' ≡ appended sent (take n piece) → NotedWrite before after sent sent' count count' piece result
-write_done before after sent sent' count count' piece answer told result n same within link kept ok err cause steady wanted is ends more =
-    write_noted before after sent sent' count count' piece answer result (ends ∙ sym is ∙ same) within link kept ok err
+    → MarksRefusal before after answer
+    → HasCause count count' told → (IsOk told → count' ≡ count)
+    → told ≡ Ok n → result ≡ Ok n → sent' ≡ appended sent (take n piece) → WritesNoted before after sent sent' count count' piece result
+write_done before after sent sent' count count' piece answer told result n same within link marks cause steady is ends more =
+    write_noted before after sent sent' count count' piece answer result (ends ∙ sym is ∙ same) within link marks
     (subst (λ (r : Result ℕ IoError). HasCause count count' r) same cause) (subst (λ (r : Result ℕ IoError). IsOk r → count' ≡ count) same steady)
-    (subst (λ (r : Result ℕ IoError). IsErrOf r Io.NoMemory → count' ≡ count) same wanted)
     (subst (λ (r : Result ℕ IoError). IfOk r (λ (m : ℕ). sent' ≡ appended sent (take m piece))) (sym is ∙ same) more)
     (subst (λ (r : Result ℕ IoError). OnErr r (sent' ≡ sent)) (sym is ∙ same) tt)

@@ -1,5 +1,5 @@
 -- A pooled reach and the link of its running talk as contracts see them, and both after a read and after a write.
-use Rattle.std.specs.Prelude.{◌≡◌, ℕ, List, take, Option, None, IsSome, IfSome, Bool, true, false, Result, IsOk, IfOk, OnOk, OnErr, IsErrOf, is_some}
+use Rattle.std.specs.Prelude.{◌≡◌, ℕ, ◌<◌, ◌≤◌, List, length, take, Option, None, IsSome, IfSome, Bool, true, false, Result, IsOk, IfOk, OnOk, OnErr, IsErrOf, is_some}
 use Rattle.jk_io.specs.Told.{appended, prepended, IsEmpty, HasCause}
 use Rattle.jk_io.specs.Moments.{Moment}
 use Rattle.jk_io.specs.Talks.{begun_with}
@@ -72,6 +72,32 @@ pub record StaysLent {L : Type 0} (before after : LentState L) (result : Result 
   pub ok : OnOk result (after.faulty ≡ before.faulty)
   pub failed : IsErrOf result Failed → after.faulty ≡ true
   pub marked : before.faulty ≡ true → after.faulty ≡ true
+
+-- a call of a talk's link, which stays whose it is, and is marked where the call was refused
+pub record MarksRefusal {L : Type 0} (before after : LentState L) (result : Result ℕ IoError) : Type 0 where
+  pub same : after ≡ record before { link = after.link; faulty = after.faulty }
+  pub ok : OnOk result (after.faulty ≡ before.faulty)
+  pub err : OnErr result (after.faulty ≡ true)
+
+-- a read within a talk, noted on its tape, which `received` so many bytes, and counted where it failed
+pub record ReadsNoted {L : Type 0} (before after : LentState L) (received received_now : Option (List ℕ)) (failed failed_now : ℕ) (buf : List ℕ)
+    (result : Result ℕ IoError) : Type 0 where
+  pub count : IfOk result (λ n. n ≤ length buf)
+  pub got : IfOk result (λ n. received_now ≡ appended received (take n buf))
+  pub kept_on_error : OnErr result (received_now ≡ received)
+  pub cause : HasCause failed failed_now result
+  pub steady : IsOk result → failed_now ≡ failed
+  pub talk : ReadsLink before.link after.link buf result × StaysLent before after result
+
+-- the same of a write
+pub record WritesNoted {L : Type 0} (before after : LentState L) (sent sent_now : Option (List ℕ)) (failed failed_now : ℕ) (piece : List ℕ)
+    (result : Result ℕ IoError) : Type 0 where
+  pub count : IfOk result (λ n. (0 < n) × (n ≤ length piece))
+  pub put : IfOk result (λ n. sent_now ≡ appended sent (take n piece))
+  pub kept_on_error : OnErr result (sent_now ≡ sent)
+  pub cause : HasCause failed failed_now result
+  pub steady : IsOk result → failed_now ≡ failed
+  pub talk : WritesLink before.link after.link piece result × StaysLent before after result
 
 -- at the end of its talk a link is handed to the pool of its member where it is to be kept and none of its calls was
 -- refused, and so only where its count of faults is still that of the talk's begin; else it is closed

@@ -1,8 +1,7 @@
 //! The link of a running talk. It tells its balancer and member.
-ghost use Rattle.std.specs.Prelude.{◌≡◌, ◌<◌, ◌≤◌, true, false, None, IsSome, IfOk, IfSome, OnOk, OnErr, length};
+ghost use Rattle.std.specs.Prelude.{◌≡◌, ◌<◌, ◌≤◌, true, false, None, IsSome, IfOk, IfSome, length};
 ghost use Rattle.jk_io.specs.Moments.{moment};
-ghost use Rattle.jk_io.specs.Told.{HasCause};
-ghost use Rattle.conn_pool.specs.Reaches.{ReadsLink, WritesLink};
+ghost use Rattle.conn_pool.specs.Reaches.{FlushesLink, MarksRefusal, ReadsLink, WritesLink};
 
 use crate::idle::Idle;
 use jk_io::{Awaited, IoError, Link};
@@ -92,9 +91,7 @@ impl<L: Link + Drop> Lent<L> {
         requires { 0 < length buf.old }
         ensures count { IfOk result (λ n. n ≤ length buf.new) }
         ensures link { ReadsLink self.old.link self.new.link buf.new result }
-        ensures ok { OnOk result (self.new.faulty ≡ self.old.faulty) }
-        ensures err { OnErr result (self.new.faulty ≡ true) }
-        ensures same { self.new ≡ record self.old { link = self.new.link; faulty = self.new.faulty } }
+        ensures marks { MarksRefusal self.old self.new result }
     {
         let answer = self.link.read(buf);
         if answer.is_err() {
@@ -107,9 +104,7 @@ impl<L: Link + Drop> Lent<L> {
         requires { 0 < length piece.now }
         ensures count { IfOk result (λ n. (0 < n) × (n ≤ length piece.now)) }
         ensures link { WritesLink self.old.link self.new.link piece.now result }
-        ensures ok { OnOk result (self.new.faulty ≡ self.old.faulty) }
-        ensures err { OnErr result (self.new.faulty ≡ true) }
-        ensures same { self.new ≡ record self.old { link = self.new.link; faulty = self.new.faulty } }
+        ensures marks { MarksRefusal self.old self.new result }
     {
         let answer = self.link.write(piece);
         if answer.is_err() {
@@ -119,12 +114,7 @@ impl<L: Link + Drop> Lent<L> {
     }
 
     pub(crate) fn flush(&mut self) -> Result<(), IoError>
-        ensures cause { HasCause self.old.link.faults self.new.link.faults result }
-        ensures ok { OnOk result (self.new ≡ self.old) }
-        ensures err { OnErr result (self.new.faulty ≡ true) }
-        ensures bytes { (self.new.link.incoming ≡ self.old.link.incoming) × (self.new.link.received ≡ self.old.link.received)
-            × (self.new.link.sent ≡ self.old.link.sent) }
-        ensures same { self.new ≡ record self.old { link = self.new.link; faulty = self.new.faulty } }
+        ensures { FlushesLink self.old self.new result }
     {
         let answer = self.link.flush();
         if answer.is_err() {

@@ -1,7 +1,7 @@
 //! Calls of the link of a running talk, counted where they fail and noted on the tape.
-ghost use Rattle.std.specs.Prelude.{◌≡◌, ◌<◌, ◌≤◌, IsOk, IsErrOf, IfOk, OnErr, length, take};
-ghost use Rattle.jk_io.specs.Told.{appended, HasCause};
-ghost use Rattle.conn_pool.specs.Reaches.{FlushesLink, ReadsLink, WritesLink, StaysLent};
+ghost use Rattle.std.specs.Prelude.{◌≡◌, ◌<◌, IsOk, IsErrOf, length};
+ghost use Rattle.jk_io.specs.Told.{HasCause};
+ghost use Rattle.conn_pool.specs.Reaches.{FlushesLink, ReadsNoted, WritesNoted};
 
 use crate::lent::Lent;
 use crate::tape::Tape;
@@ -12,7 +12,6 @@ pub(crate) fn counted<T>(answer: Result<T, IoError>, failed: &mut u64) -> Result
     ensures same { result ≡ answer }
     ensures cause { HasCause failed.old failed.new result }
     ensures steady { IsOk result → failed.new ≡ failed.old }
-    ensures wanted { IsErrOf result IoError.NoMemory → failed.new ≡ failed.old }
 {
     if let Err(IoError::Failed) = answer {
         *failed = failed.saturating_add(1);
@@ -38,15 +37,9 @@ pub(crate) fn read_lent<L: Link + Drop, T: Tape>(
     requires some { 0 < length buf.old }
     requires running { T.is_running tape.old }
 
-    ensures count { IfOk result (λ n. n ≤ length buf.new) }
-    ensures got { IfOk result (λ n. T.received tape.new ≡ appended (T.received tape.old) (take n buf.new)) }
-    ensures kept_on_error { OnErr result (T.received tape.new ≡ T.received tape.old) }
+    ensures noted { ReadsNoted lent.old lent.new (T.received tape.old) (T.received tape.new) failed.old failed.new buf.new result }
     ensures same { (T.talks tape.new ≡ T.talks tape.old) × (T.begun tape.new ≡ T.begun tape.old) × (T.sent tape.new ≡ T.sent tape.old) }
-    ensures cause { HasCause failed.old failed.new result }
-    ensures steady { IsOk result → failed.new ≡ failed.old }
-    ensures wanted { IsErrOf result IoError.NoMemory → failed.new ≡ failed.old }
     ensures running { T.is_running tape.new }
-    ensures talk { ReadsLink lent.old.link lent.new.link buf.new result × StaysLent lent.old lent.new result }
 {
     tape.room(buf.len())?;
     let n = counted(lent.read(buf), failed)?;
@@ -64,15 +57,9 @@ pub(crate) fn write_lent<L: Link + Drop, T: Tape>(
     requires some { 0 < length piece.now }
     requires running { T.is_running tape.old }
 
-    ensures count { IfOk result (λ n. (0 < n) × (n ≤ length piece.now)) }
-    ensures put { IfOk result (λ n. T.sent tape.new ≡ appended (T.sent tape.old) (take n piece.now)) }
-    ensures kept_on_error { OnErr result (T.sent tape.new ≡ T.sent tape.old) }
+    ensures noted { WritesNoted lent.old lent.new (T.sent tape.old) (T.sent tape.new) failed.old failed.new piece.now result }
     ensures same { (T.talks tape.new ≡ T.talks tape.old) × (T.begun tape.new ≡ T.begun tape.old) × (T.received tape.new ≡ T.received tape.old) }
-    ensures cause { HasCause failed.old failed.new result }
-    ensures steady { IsOk result → failed.new ≡ failed.old }
-    ensures wanted { IsErrOf result IoError.NoMemory → failed.new ≡ failed.old }
     ensures running { T.is_running tape.new }
-    ensures talk { WritesLink lent.old.link lent.new.link piece.now result × StaysLent lent.old lent.new result }
 {
     tape.room(piece.len())?;
     let n = counted(lent.write(piece), failed)?;

@@ -1,5 +1,5 @@
 //! The idle links of one member.
-ghost use Rattle.std.specs.Prelude.{◌≡◌, ◌+◌, ◌-◌, ◌^◌, ◌<◌, ◌≤◌, [], ◌∷◌, ◌++◌, true, false, None, Some, length, take, IfOk, IfSome, IfNone, OnOk, OnErr};
+ghost use Rattle.std.specs.Prelude.{◌≡◌, ◌-◌, ◌^◌, ◌<◌, ◌≤◌, [], ◌∷◌, ◌++◌, None, Some, length, take, IfOk, IfSome, IfNone, OnOk, OnErr};
 ghost use Rattle.conn_pool.specs.Idle.{PoolState};
 
 use jk_io::{ListOf, NoMemory};
@@ -71,19 +71,18 @@ impl<L: Drop> Pool<L> {
 
     /// The link that was put last; None where none is idle.
     pub fn take(&mut self) -> Option<L>
-        ensures last { IfSome result (λ link. self.old.idle ≡ self.new.idle ++ link ∷ []) }
-        ensures none { IfNone result ((self.old.idle ≡ []) × (self.new.idle ≡ [])) }
-        ensures same { self.new.size ≡ self.old.size }
+        ensures last { IfSome result (λ link. self.old ≡ record self.new { idle = self.new.idle ++ link ∷ [] }) }
+        ensures none { IfNone result ((self.old.idle ≡ []) × (self.new ≡ self.old)) }
     {
         self.idle.pop()
     }
 
     /// Puts a link; it comes back exactly where `size` are idle.
     pub fn put(&mut self, link: L) -> Option<L>
-        ensures room { length self.old.idle < self.old.size → (result ≡ None) × (self.new.idle ≡ self.old.idle ++ link ∷ []) }
-        ensures full { length self.old.idle ≡ self.old.size → (result ≡ Some link) × (self.new.idle ≡ self.old.idle) }
+        ensures room { length self.old.idle < self.old.size
+            → (result ≡ None) × (self.new ≡ record self.old { idle = self.old.idle ++ link ∷ [] }) }
+        ensures full { length self.old.idle ≡ self.old.size → (result ≡ Some link) × (self.new ≡ self.old) }
         ensures within { length self.old.idle ≤ self.old.size }
-        ensures same { self.new.size ≡ self.old.size }
     {
         if self.idle.len() == self.size as usize {
             return Some(link);
@@ -98,9 +97,8 @@ impl<L: Drop> Pool<L> {
     pub fn take_all(&mut self, alloc: Global) -> Result<LinkList<L>, NoMemory>
         ensures all { IfOk result (λ links. links ≡ self.old.idle) }
         ensures few { IfOk result (λ links. length links < 2 ^ 32) }
-        ensures empty { OnOk result (self.new.idle ≡ []) }
-        ensures err { OnErr result (self.new.idle ≡ self.old.idle) }
-        ensures same { self.new.size ≡ self.old.size }
+        ensures empty { OnOk result (self.new ≡ record self.old { idle = [] }) }
+        ensures err { OnErr result (self.new ≡ self.old) }
     {
         let empty = Vec::with_capacity(alloc, self.size as usize)?;
         Ok(LinkList::from_vec(mem::replace(&mut self.idle, empty)))
@@ -109,9 +107,8 @@ impl<L: Drop> Pool<L> {
     /// Puts links in their order while there is room, closes the others, and answers how many it closed.
     pub fn put_all(&mut self, links: LinkList<L>) -> u32
         requires { length links < 2 ^ 32 }
-        ensures put { self.new.idle ≡ self.old.idle ++ take (self.old.size - length self.old.idle) links }
+        ensures put { self.new ≡ record self.old { idle = self.old.idle ++ take (self.old.size - length self.old.idle) links } }
         ensures closed { result ≡ length links - (self.old.size - length self.old.idle) }
-        ensures same { self.new.size ≡ self.old.size }
     {
         let room = self.size as usize - self.idle.len();
         let mut links = links.into_vec();

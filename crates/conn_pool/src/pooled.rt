@@ -137,7 +137,6 @@ impl<'p, 'r, D: Dial, T: Tape, R> Source for PooledReach<'p, 'r, D, T, R> {
             × (beside_of T.begun T.talks self.new ≡ beside_of T.begun T.talks self.old) }
         ensures cause { HasCause self.old.faults self.new.faults result }
         ensures steady { IsOk result → self.new.faults ≡ self.old.faults }
-        ensures want_of_memory { IsErrOf result IoError.NoMemory → self.new.faults ≡ self.old.faults }
     {
         let Some(lent) = &mut self.lent else {
             return outside_talk(&mut self.failed);
@@ -167,7 +166,6 @@ impl<'p, 'r, D: Dial, T: Tape, R> Sink for PooledReach<'p, 'r, D, T, R> {
             × (beside_of T.begun T.talks self.new ≡ beside_of T.begun T.talks self.old) }
         ensures cause { HasCause self.old.faults self.new.faults result }
         ensures steady { IsOk result → self.new.faults ≡ self.old.faults }
-        ensures want_of_memory { IsErrOf result IoError.NoMemory → self.new.faults ≡ self.old.faults }
     {
         let Some(lent) = &mut self.lent else {
             return outside_talk(&mut self.failed);

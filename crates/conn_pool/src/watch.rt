@@ -30,6 +30,8 @@ struct Looked<'a, 'p, 'r, L, R> {
     cfg: &'p Config,
     watch: Watch,
     now: u64,
+    ghost every: { 0 < watch.every },
+    ghost sizes: { counts pools.now ≡ ends_of cfg.now.lbs },
 }
 
 fn is_due(watch: &Watch, now: u64) -> bool
@@ -49,8 +51,7 @@ fn look_at_member<L: Link + Drop, R: Wait>(
     member: u32,
     end: &Endpoint,
 ) -> Result<WatchReport, NoMemory>
-    requires known { HasMember looked.now.pools.now lb member }
-    requires every { 0 < looked.now.watch.every }
+    requires { HasMember looked.now.pools.now lb member }
 {
     let links = looked.pools.take_all(alloc, lb, member)?;
     let limit = limit_of(&looked.watch, end);
@@ -68,7 +69,6 @@ fn look_at_balancer<L: Link + Drop, R: Wait>(
     ends: &[Endpoint],
 ) -> Result<WatchReport, NoMemory>
     requires sizes { length ends.now ≡ slice_index (counts looked.now.pools.now) lb }
-    requires every { 0 < looked.now.watch.every }
     requires few { length ends.now < 2 ^ 32 }
 {
     let mut report = WatchReport::none();
@@ -84,10 +84,7 @@ fn look_at_balancer<L: Link + Drop, R: Wait>(
 fn look_at_all<L: Link + Drop, R: Wait>(
     alloc: Global,
     looked: &Looked<'_, '_, '_, L, R>,
-) -> Result<WatchReport, NoMemory>
-    requires sizes { counts looked.now.pools.now ≡ ends_of looked.now.cfg.now.lbs }
-    requires every { 0 < looked.now.watch.every }
-{
+) -> Result<WatchReport, NoMemory> {
     let mut report = WatchReport::none();
     let mut lb = 0;
     for balancer in looked.cfg.lbs.as_slice() {

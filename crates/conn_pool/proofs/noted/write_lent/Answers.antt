@@ -9,18 +9,12 @@ use Rattle.conn_pool.proofs.noted.write_lent.Goals as goal
 pub returns-in_err-room : goal.returns-in_err-room
 returns-in_err-room g c =
     let room = c.room.ensures in
-    let f = unwritten c.args.lent.now (g.T.Tape.sent c.args.tape.now) (g.T.Tape.sent c.room.new.self) c.args.failed.now c.args.piece.now c.from_residual.result
+    let noted = unwritten c.args.lent.now (g.T.Tape.sent c.args.tape.now) (g.T.Tape.sent c.room.new.self) c.args.failed.now c.args.piece.now c.from_residual.result
     room.same.2 c.from_residual.ensures.1 in
     record {
-      count = f.within;
-      put = f.put;
-      kept_on_error = f.kept_on_error;
+      noted = noted;
       same = (room.same.0, room.same.1, room.same.3);
-      cause = f.cause;
-      steady = f.steady;
-      wanted = f.wanted;
       running = room.running;
-      talk = f.talk;
     }
 
 pub returns-in_err-n : goal.returns-in_err-n
@@ -30,19 +24,13 @@ returns-in_err-n g c =
     let told = c.counted.ensures in
     let p = err_from_is_err_and c.from_residual-in_err-n.result c.from_residual-in_err-n.ensures.1 in
     let ends : c.from_residual-in_err-n.result ≡ Err c.in_err-n.field-0.0 = cc (p.1, p.2) in
-    let f = write_refused c.args.lent.now c.write.new.self (g.T.Tape.sent c.args.tape.now) (g.T.Tape.sent c.room.new.self) c.args.failed.now c.counted.new.failed
-    c.args.piece.now c.write.result c.counted.result c.from_residual-in_err-n.result c.in_err-n.field-0.0 told.same e.count e.link e.same e.ok e.err told.cause told.steady
-    told.wanted c.in_err-n.was ends room.same.2 in
+    let noted = write_refused c.args.lent.now c.write.new.self (g.T.Tape.sent c.args.tape.now) (g.T.Tape.sent c.room.new.self) c.args.failed.now c.counted.new.failed
+    c.args.piece.now c.write.result c.counted.result c.from_residual-in_err-n.result c.in_err-n.field-0.0 told.same e.count e.link e.marks told.cause told.steady
+    c.in_err-n.was ends room.same.2 in
     record {
-      count = f.within;
-      put = f.put;
-      kept_on_error = f.kept_on_error;
+      noted = noted;
       same = (room.same.0, room.same.1, room.same.3);
-      cause = f.cause;
-      steady = f.steady;
-      wanted = f.wanted;
       running = room.running;
-      talk = f.talk;
     }
 
 pub returns : goal.returns
@@ -50,18 +38,12 @@ returns g c =
     let room = c.room.ensures in
     let e = c.write.ensures in
     let told = c.counted.ensures in
-    let noted = c.sent.ensures in
-    let f = write_done c.args.lent.now c.write.new.self (g.T.Tape.sent c.args.tape.now) (g.T.Tape.sent c.sent.new.self) c.args.failed.now c.counted.new.failed
-    c.args.piece.now c.write.result c.counted.result (Ok c.in_ok-n.n) c.in_ok-n.n told.same e.count e.link e.same e.ok e.err told.cause told.steady told.wanted
-    c.in_ok-n.was refl (noted.added ∙ ap (λ (r : Option (List ℕ)). appended r (take c.in_ok-n.n c.args.piece.now)) room.same.2) in
+    let note = c.sent.ensures in
+    let noted = write_done c.args.lent.now c.write.new.self (g.T.Tape.sent c.args.tape.now) (g.T.Tape.sent c.sent.new.self) c.args.failed.now c.counted.new.failed
+    c.args.piece.now c.write.result c.counted.result (Ok c.in_ok-n.n) c.in_ok-n.n told.same e.count e.link e.marks told.cause told.steady
+    c.in_ok-n.was refl (note.added ∙ ap (λ (r : Option (List ℕ)). appended r (take c.in_ok-n.n c.args.piece.now)) room.same.2) in
     record {
-      count = f.within;
-      put = f.put;
-      kept_on_error = f.kept_on_error;
-      same = (noted.same.0 ∙ room.same.0, noted.same.1 ∙ room.same.1, noted.same.2 ∙ room.same.3);
-      cause = f.cause;
-      steady = f.steady;
-      wanted = f.wanted;
-      running = noted.running;
-      talk = f.talk;
+      noted = noted;
+      same = (note.same.0 ∙ room.same.0, note.same.1 ∙ room.same.1, note.same.2 ∙ room.same.3);
+      running = note.running;
     }
