@@ -8,7 +8,7 @@ use Rattle.lb_model.specs.Present.{IsPresent}
 use Rattle.lb_model.specs.Tickets.{is_returned}
 use Rattle.lb_model.specs.declared.journal.Entry.{Entry}
 use Rattle.lb_model.specs.declared.view.View.{View}
-use Rattle.lb_book.specs.Desks.{DeskState, holds}
+use Rattle.lb_book.specs.Desks.{DeskState, KeepsDesk, holds}
 use Rattle.lb_book.specs.declared.receipt.Receipt.{Receipt}
 use Rattle.lb_book.specs.Histories.{BeginsWith, IsHistory, has_made, own_of}
 use Rattle.lb_passes.specs.declared.pass_view.PassView.{PassView}
@@ -82,6 +82,16 @@ pub record ArePassesOf (books : List PassBook) (passes : List Pass) : Type 0 whe
   pub of : (lb : ℕ) (b : PassBook) (p : Pass) → get_elem? books lb ≡ some b → get_elem? passes lb ≡ some p → p.seat.table_id ≡ b.table.shared.table_id
   pub one : (i j : ℕ) (p q : Pass) → get_elem? passes i ≡ some p → get_elem? passes j ≡ some q → p.number ≡ q.number
 
+-- The pass is one of this book, and the call is its caller's own.
+pub record IsOwnCall (book : PassBook) (pass : Pass) (session : ℕ) : Type 0 where
+  pub of : pass.seat.table_id ≡ book.table.shared.table_id
+  pub caller : session ≡ pass.number
+
+-- The view's caller got this ticket, and didn't give it back.
+pub record IsOwnTicket (ticket : ℕ) (v : PassView) : Type 0 where
+  pub made : has_made ticket (own_in v) ≡ true
+  pub still : is_returned ticket (own_in v) ≡ false
+
 -- A pass stays of its table and number, its history begins where it did, and it gave as many numbers.
 pub record StaysPass (p q : Pass) : Type 0 where
   pub of : q.seat.table_id ≡ p.seat.table_id
@@ -95,6 +105,16 @@ StayPasses [] [] = Unit {0}
 StayPasses [] (q ∷ qs) = ⊥
 StayPasses (p ∷ ps) [] = ⊥
 StayPasses (p ∷ ps) (q ∷ qs) = StaysPass p q × StayPasses ps qs
+
+-- What a call never changes of a desk, and each pass in its place.
+pub record KeepsPassDesk (old new : PassDeskState) : Type 0 where
+  pub kept : KeepsDesk old.desk new.desk
+  pub stay : StayPasses old.passes new.passes
+
+-- The desk is as it was, and each pass is in its place.
+pub record LeavesDesk (old new : PassDeskState) : Type 0 where
+  pub desk : new.desk ≡ old.desk
+  pub stay : StayPasses old.passes new.passes
 
 -- The standing of a pass in a history: it is a legal one from the opening that the pass knows, what the pass has seen is its beginning,
 -- and the pass's own entries are those of its number in it, each once and in the order of its calls.

@@ -1,11 +1,9 @@
 //! The calls of a desk on one balancer, with the receipts and the tickets that the desk keeps.
-ghost use Rattle.std.specs.Prelude.{◌≡◌, ◌≤◌, true, false, not, filter, IfOk, IfErr, OnOk};
+ghost use Rattle.std.specs.Prelude.{◌≡◌, true, not, filter, IfOk, IfErr, OnOk};
 ghost use Rattle.lb_book.specs.Desks.{holds, is_pair};
-ghost use Rattle.lb_model.specs.Tickets.{is_returned};
-ghost use Rattle.lb_model.specs.declared.journal.TheConstants.{MOST_BYTES};
-ghost use Rattle.lb_book.specs.Histories.{has_made};
 ghost use Rattle.lb_passes.specs.Calls.{CallChooses, CallCommands, CallDenies, CallRefuses};
-ghost use Rattle.lb_passes.specs.Holds.{Returns, own_in};
+ghost use Rattle.lb_passes.specs.Holds.{Returns};
+ghost use Rattle.lb_passes.specs.PassDesks.{IsOwnCall, IsOwnTicket};
 ghost use Rattle.lb_passes.specs.Passes.{KeepsSeat};
 
 use crate::desk_lists::DeskLists;
@@ -26,8 +24,7 @@ pub(crate) fn choose_at<R: Wait>(
     on: Occasion,
     ask: &Ask,
 ) -> Result<Choice<PlainLease>, RoomError<FullMark>>
-    requires of { pass.old.seat.table_id ≡ book.now.table.shared.table_id }
-    requires caller { on.session ≡ pass.old.number }
+    requires { IsOwnCall book.now pass.old on.session }
     ensures seat { KeepsSeat pass.old pass.new }
     ensures ok { IfOk result (CallChooses pass.old.seat.me.0 pass.new.seat.me.0 lists.old lists.new on ask.now) }
     ensures err { IfErr result (CallDenies pass.old.seat.me.0 pass.new.seat.me.0 lists.old lists.new on) }
@@ -47,12 +44,9 @@ pub(crate) fn return_at<R: Wait>(
     on: Occasion,
     back: Returned,
 )
-    requires of { pass.old.seat.table_id ≡ book.now.table.shared.table_id }
-    requires caller { on.session ≡ pass.old.number }
-    requires made { has_made back.ticket (own_in pass.old.seat.me.0) ≡ true }
-    requires still { is_returned back.ticket (own_in pass.old.seat.me.0) ≡ false }
+    requires own { IsOwnCall book.now pass.old on.session }
+    requires out { IsOwnTicket back.ticket pass.old.seat.me.0 }
     requires held { holds lists.old.held.items (on.lb, back.ticket) ≡ true }
-    requires bytes { back.outcome.bytes ≤ MOST_BYTES }
     ensures seat { KeepsSeat pass.old pass.new }
     ensures back { Returns pass.old.seat.me.0 pass.new.seat.me.0 lists.old.receipts.items lists.new.receipts.items on back.ticket back.outcome }
     ensures held { lists.new.held.items ≡ filter (λ x. not (is_pair (on.lb, back.ticket) x)) lists.old.held.items }
@@ -70,8 +64,7 @@ pub(crate) fn command_at<R: Wait>(
     on: Occasion,
     command: &Command,
 ) -> Result<(), AdminError<FullMark>>
-    requires of { pass.old.seat.table_id ≡ book.now.table.shared.table_id }
-    requires caller { on.session ≡ pass.old.number }
+    requires { IsOwnCall book.now pass.old on.session }
     ensures seat { KeepsSeat pass.old pass.new }
     ensures ok { OnOk result (CallCommands pass.old.seat.me.0 pass.new.seat.me.0 lists.old lists.new on command.now) }
     ensures err { IfErr result (CallRefuses pass.old.seat.me.0 pass.new.seat.me.0 lists.old lists.new on command.now) }

@@ -1,9 +1,8 @@
 //! One turn at the Book: a Maintain if due and a call, each entry with its receipt.
-ghost use Rattle.std.specs.Prelude.{◌≡◌, ◌+◌, ◌<◌, ◌≤◌, true, false, [], vec_len, vec_capacity, IfOk, IfErr, OnOk};
-ghost use Rattle.lb_model.specs.Tickets.{is_returned};
+ghost use Rattle.std.specs.Prelude.{◌≡◌, ◌+◌, ◌<◌, ◌≤◌, [], vec_len, vec_capacity, IfOk, IfErr, OnOk};
 ghost use Rattle.lb_model.specs.declared.journal.TheConstants.{MOST_BYTES};
-ghost use Rattle.lb_book.specs.Histories.{has_made};
-ghost use Rattle.lb_passes.specs.Holds.{Commands, Denies, Looks, RefusesInTurn, Returns, Selects, own_in};
+ghost use Rattle.lb_passes.specs.Holds.{Commands, Denies, Looks, RefusesInTurn, Returns, Selects};
+ghost use Rattle.lb_passes.specs.PassDesks.{IsOwnCall, IsOwnTicket};
 ghost use Rattle.lb_passes.specs.Passes.{KeepsSeat};
 
 use crate::pass::Pass;
@@ -24,6 +23,7 @@ const BOOK: usize = 0;
 pub(crate) struct Returned {
     pub(crate) ticket: u64,
     pub(crate) outcome: Outcome,
+    pub ghost bytes: { outcome.bytes ≤ MOST_BYTES },
 }
 
 /// A Maintain if due, and a Select.
@@ -35,8 +35,7 @@ pub(crate) fn select_in<R: Wait>(
     on: Occasion,
     ask: &Ask,
 ) -> Result<Picked, RoomError<FullMark>>
-    requires of { pass.old.seat.table_id ≡ book.now.table.shared.table_id }
-    requires caller { on.session ≡ pass.old.number }
+    requires own { IsOwnCall book.now pass.old on.session }
     requires room { vec_len receipts.old + 2 ≤ vec_capacity receipts.old }
     ensures seat { KeepsSeat pass.old pass.new }
     ensures room { vec_capacity receipts.old ≤ vec_capacity receipts.new }
@@ -64,12 +63,9 @@ pub(crate) fn return_in<R: Wait>(
     on: Occasion,
     back: Returned,
 )
-    requires of { pass.old.seat.table_id ≡ book.now.table.shared.table_id }
-    requires caller { on.session ≡ pass.old.number }
+    requires own { IsOwnCall book.now pass.old on.session }
     requires room { vec_len receipts.old < vec_capacity receipts.old }
-    requires made { has_made back.ticket (own_in pass.old.seat.me.0) ≡ true }
-    requires still { is_returned back.ticket (own_in pass.old.seat.me.0) ≡ false }
-    requires bytes { back.outcome.bytes ≤ MOST_BYTES }
+    requires out { IsOwnTicket back.ticket pass.old.seat.me.0 }
     ensures seat { KeepsSeat pass.old pass.new }
     ensures room { vec_capacity receipts.old ≤ vec_capacity receipts.new }
     ensures back { Returns pass.old.seat.me.0 pass.new.seat.me.0 receipts.old.items receipts.new.items on back.ticket back.outcome }
@@ -93,8 +89,7 @@ pub(crate) fn command_in<R: Wait>(
     on: Occasion,
     command: &Command,
 ) -> Result<(), AdminError<FullMark>>
-    requires of { pass.old.seat.table_id ≡ book.now.table.shared.table_id }
-    requires caller { on.session ≡ pass.old.number }
+    requires own { IsOwnCall book.now pass.old on.session }
     requires room { vec_len receipts.old + 2 ≤ vec_capacity receipts.old }
     ensures seat { KeepsSeat pass.old pass.new }
     ensures room { vec_capacity receipts.old ≤ vec_capacity receipts.new }

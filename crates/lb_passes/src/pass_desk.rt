@@ -47,7 +47,7 @@ impl<'b, 'r, R> PassDesk<'b, 'r, R> {
     ghost use lib.ListN.{get_elem?};
     ghost use Rattle.lb_passes.specs.declared.pass.Pass.{Pass};
     ghost use Rattle.lb_passes.specs.Notes.{IsNoteOf, MeetsAt};
-    ghost use Rattle.lb_passes.specs.PassDesks.{ArePassesOf, StayPasses, desk_value, view_of};
+    ghost use Rattle.lb_passes.specs.PassDesks.{ArePassesOf, LeavesDesk, desk_value, view_of};
 
     /// A desk with one pass of each book, in order, all of one number. It holds no ticket, and takes no memory.
     pub fn new(
@@ -87,9 +87,8 @@ impl<'b, 'r, R> PassDesk<'b, 'r, R> {
     pub fn note(&mut self, lb: u32) -> Note
         requires known { lb < length self.old.desk.sizes }
         ensures note { (p : Pass) → get_elem? self.old.passes lb ≡ some p → IsNoteOf p result }
-        ensures desk { self.new.desk ≡ self.old.desk }
+        ensures same { LeavesDesk self.old self.new }
         ensures views { map view_of self.new.passes ≡ map view_of self.old.passes }
-        ensures stay { StayPasses self.old.passes self.new.passes }
     {
         note_at(&self.books[lb as usize], &mut self.passes[lb as usize])
     }
@@ -98,9 +97,8 @@ impl<'b, 'r, R> PassDesk<'b, 'r, R> {
     pub fn meet(&mut self, lb: u32, note: Note)
         requires known { lb < length self.old.desk.sizes }
         requires of { (p : Pass) → get_elem? self.old.passes lb ≡ some p → note.seat.table_id ≡ p.seat.table_id }
-        ensures desk { self.new.desk ≡ self.old.desk }
+        ensures same { LeavesDesk self.old self.new }
         ensures meets { MeetsAt self.old self.new lb note }
-        ensures stay { StayPasses self.old.passes self.new.passes }
     {
         meet_at(
             &self.books[lb as usize],
@@ -125,7 +123,6 @@ impl<'b, 'r, R: Wait> Desk for PassDesk<'b, 'r, R> {
     ghost use Rattle.lb_book.specs.Desks.{
       Chooses,
       Commands,
-      KeepsDesk,
       LeaseNote,
       MeetsNone,
       MeetsStray,
@@ -141,7 +138,7 @@ impl<'b, 'r, R: Wait> Desk for PassDesk<'b, 'r, R> {
     ghost use Rattle.lb_model.specs.declared.journal.TheConstants.{MOST_BYTES};
     ghost use mathlib.Core.Option.{some};
     ghost use lib.ListN.{get_elem?};
-    ghost use Rattle.lb_passes.specs.PassDesks.{MaySee, SeesAt, ShowsSeen, StayPasses, view_of};
+    ghost use Rattle.lb_passes.specs.PassDesks.{KeepsPassDesk, LeavesDesk, MaySee, SeesAt, ShowsSeen, view_of};
     ghost use Rattle.lb_passes.specs.Rooms.{AskFits, CommandFits};
     ghost use Rattle.lb_passes.specs.declared.pass.Pass.{Pass};
 
@@ -170,11 +167,10 @@ impl<'b, 'r, R: Wait> Desk for PassDesk<'b, 'r, R> {
         requires caller { IfSome self.old.desk.caller (λ n. session ≡ n) }
         ensures ok { IfOk result (λ c. Chooses note_of self.old.desk self.new.desk lb session at ask.now c) }
         ensures err { IfErr result (λ e. RefusesChoice (λ mark. mark) self.old.desk self.new.desk lb session at e) }
-        ensures kept { KeepsDesk self.old.desk self.new.desk }
+        ensures keeps { KeepsPassDesk self.old self.new }
 
         // All that was seen was seen before, or is the call's own, or comes between the two.
         ensures seen { MaySee self.old self.new lb }
-        ensures stay { StayPasses self.old.passes self.new.passes }
 
         // Full exactly where all that the pass has then seen leaves no room.
         ensures fits { (p : Pass) → get_elem? self.new.passes lb ≡ some p → AskFits (view_of p) result }
@@ -208,9 +204,8 @@ impl<'b, 'r, R: Wait> Desk for PassDesk<'b, 'r, R> {
         ensures err { IfErr result (λ stray. MeetsStray self.old.desk self.new.desk (note_of lease) stray) }
         ensures held { self.new.desk.held ≡ without_last self.old.desk.held (pair_of (note_of lease)) }
         ensures same { (self.new.desk.fulls ≡ self.old.desk.fulls) × (self.new.desk.wides ≡ self.old.desk.wides) }
-        ensures kept { KeepsDesk self.old.desk self.new.desk }
+        ensures keeps { KeepsPassDesk self.old self.new }
         ensures seen { SeesAt self.old self.new (note_of lease).lb }
-        ensures stay { StayPasses self.old.passes self.new.passes }
     {
         let (lb, ticket) = lease.into_pair();
         return_at(
@@ -237,9 +232,8 @@ impl<'b, 'r, R: Wait> Desk for PassDesk<'b, 'r, R> {
         ensures err { IfErr result (λ e. RefusesCommand (λ mark. mark) self.old.desk self.new.desk lb session at command.now e) }
         ensures held { self.new.desk.held ≡ self.old.desk.held }
         ensures stray { MeetsNone self.old.desk self.new.desk }
-        ensures kept { KeepsDesk self.old.desk self.new.desk }
+        ensures keeps { KeepsPassDesk self.old self.new }
         ensures seen { MaySee self.old self.new lb }
-        ensures stay { StayPasses self.old.passes self.new.passes }
 
         // Full and TooWide exactly where all that the pass has then seen makes them so.
         ensures fits { (p : Pass) → get_elem? self.new.passes lb ≡ some p → CommandFits command.now (view_of p) result }
@@ -259,11 +253,10 @@ impl<'b, 'r, R: Wait> Desk for PassDesk<'b, 'r, R> {
     fn look(&mut self, lb: u32) -> Result<View, NoMemory>
         requires known { lb < length self.old.desk.sizes }
         ensures shown { IfOk result (λ shown. Shows self.old.desk lb shown) }
-        ensures same { self.new.desk ≡ self.old.desk }
+        ensures same { LeavesDesk self.old self.new }
 
         // It is the view of all that the pass has then seen.
         ensures seen { SeesAt self.old self.new lb }
-        ensures stay { StayPasses self.old.passes self.new.passes }
         ensures present { IfOk result (λ view. ShowsSeen self.new lb view) }
     {
         look_in(

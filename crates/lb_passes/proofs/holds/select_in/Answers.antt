@@ -7,7 +7,7 @@ use Rattle.lb_passes.proofs.holds.select_in.Goals as goal
 pub slot_mut-requires : goal.slot_mut-requires
 slot_mut-requires g c =
     let came = c.take_turn.ensures.came in
-    (c.take_turn.ensures.of ∙ c.requires.of, (came.1.book, taken_one _ _ came.0 came.1 c.args.pass.now.idle))
+    (c.take_turn.ensures.of ∙ c.requires.own.of, (came.1.book, taken_one _ _ came.0 came.1 c.args.pass.now.idle))
 
 pub end_turn-requires-clause-told : goal.end_turn-requires-clause-told
 end_turn-requires-clause-told g c =
@@ -16,7 +16,7 @@ end_turn-requires-clause-told g c =
     let gained = ask_gained c.args.pass.now.seat.me.0 c.slot_mut.result.now c.select_after-done.new.book c.args.receipts.now.items c.select_after-done.new.receipts.items
     c.args.on c.args.ask.now c.select_after-done.result e.ok e.asked e.err in
     told_gained c.args.pass.now.seat.me c.take_turn.new.seat.me came.0 came.1 c.args.pass.now.idle _ _ c.slot_mut.ensures.value _ _ _ _ _ gained
-    (c.requires.caller ∙ sym c.args.pass.now.numbered) (c.len.result - c.len-had.result) (many_of c.select_after-done.new.receipts.items c.args.receipts.now.items _ _ (search rules) (search rules))
+    (c.requires.own.caller ∙ sym c.args.pass.now.numbered) (c.len.result - c.len-had.result) (many_of c.select_after-done.new.receipts.items c.args.receipts.now.items _ _ (search rules) (search rules))
 
 pub returns-clause-ok : goal.returns-clause-ok
 returns-clause-ok g c =
@@ -25,7 +25,7 @@ returns-clause-ok g c =
     let gained = ask_gained c.args.pass.now.seat.me.0 c.slot_mut.result.now c.select_after-done.new.book c.args.receipts.now.items c.select_after-done.new.receipts.items
     c.args.on c.args.ask.now c.select_after-done.result e.ok e.asked e.err in
     let turn = turn_gained c.args.pass.now.seat.me c.take_turn.new.seat.me came.0 came.1 c.args.pass.now.idle _ _ c.slot_mut.ensures.value _ _ _ _ _ gained
-    (c.requires.caller ∙ sym c.args.pass.now.numbered) (c.len.result - c.len-had.result) (many_of c.select_after-done.new.receipts.items c.args.receipts.now.items _ _ (search rules) (search rules))
+    (c.requires.own.caller ∙ sym c.args.pass.now.numbered) (c.len.result - c.len-had.result) (many_of c.select_after-done.new.receipts.items c.args.receipts.now.items _ _ (search rules) (search rules))
     c.end_turn.new.seat.me c.end_turn.ensures.ended in
     selects_of _ _ _ _ _ _ c.args.on c.args.ask.now c.select_after-done.result turn e.ok e.asked e.lease e.picks
 
@@ -36,6 +36,6 @@ returns-clause-err g c =
     let gained = ask_gained c.args.pass.now.seat.me.0 c.slot_mut.result.now c.select_after-done.new.book c.args.receipts.now.items c.select_after-done.new.receipts.items
     c.args.on c.args.ask.now c.select_after-done.result e.ok e.asked e.err in
     let turn = turn_gained c.args.pass.now.seat.me c.take_turn.new.seat.me came.0 came.1 c.args.pass.now.idle _ _ c.slot_mut.ensures.value _ _ _ _ _ gained
-    (c.requires.caller ∙ sym c.args.pass.now.numbered) (c.len.result - c.len-had.result) (many_of c.select_after-done.new.receipts.items c.args.receipts.now.items _ _ (search rules) (search rules))
+    (c.requires.own.caller ∙ sym c.args.pass.now.numbered) (c.len.result - c.len-had.result) (many_of c.select_after-done.new.receipts.items c.args.receipts.now.items _ _ (search rules) (search rules))
     c.end_turn.new.seat.me c.end_turn.ensures.ended in
     denies_of _ _ _ _ _ _ c.args.on c.select_after-done.result turn e.err

@@ -32,14 +32,23 @@ invariant_of-self g c =
     desk_set _ _ _ _ _ _ c.index_mut.result.now c.meet_at.new.pass c.self.invariant at c.meet_at.ensures.same.0 c.meet_at.ensures.same.1
     (got_all d.passes.items _ d.lists.held.items (λ x got. got_same d.passes.items c.args.lb c.index_mut.result.now c.meet_at.new.pass x at same got) c.self.invariant.got)
 
-pub returns-clause-desk : goal.returns-clause-desk
-returns-clause-desk g c =
-    let lt = subst (λ (s : PassDeskState). c.args.lb < length s.desk.sizes) (sym c.self.view_is) c.requires.known in
-    let at = at_place c.self.inside.passes.items c.args.lb c.index_mut.result.now lt c.index_mut.ensures.value in
-    let d = c.self.inside in
-    ap (λ (ns : List ℕ). pass_state d.number ns d.lists.receipts.items d.lists.held.items d.fulls d.wides)
-    (sizes_set d.passes.items c.args.lb c.index_mut.result.now c.meet_at.new.pass at c.meet_at.ensures.meets.origin)
-    ∙ ap (λ (s : PassDeskState). s.desk) c.self.view_is
+pub returns-clause-same : goal.returns-clause-same
+returns-clause-same g c = record {
+  desk =
+      let lt = subst (λ (s : PassDeskState). c.args.lb < length s.desk.sizes) (sym c.self.view_is) c.requires.known in
+      let at = at_place c.self.inside.passes.items c.args.lb c.index_mut.result.now lt c.index_mut.ensures.value in
+      let d = c.self.inside in
+      ap (λ (ns : List ℕ). pass_state d.number ns d.lists.receipts.items d.lists.held.items d.fulls d.wides)
+      (sizes_set d.passes.items c.args.lb c.index_mut.result.now c.meet_at.new.pass at c.meet_at.ensures.meets.origin)
+      ∙ ap (λ (s : PassDeskState). s.desk) c.self.view_is;
+  stay =
+      let lt = subst (λ (s : PassDeskState). c.args.lb < length s.desk.sizes) (sym c.self.view_is) c.requires.known in
+      let at = at_place c.self.inside.passes.items c.args.lb c.index_mut.result.now lt c.index_mut.ensures.value in
+      let d = c.self.inside in
+      let e = c.meet_at.ensures in
+      subst (λ (s : PassDeskState). StayPasses s.passes (set d.passes.items c.args.lb c.meet_at.new.pass)) c.self.view_is
+      (stay_set d.passes.items c.args.lb c.index_mut.result.now c.meet_at.new.pass at e.same.0 e.same.1 e.meets.origin e.meets.given);
+}
 
 pub returns-clause-meets : goal.returns-clause-meets
 returns-clause-meets g c =
@@ -55,12 +64,3 @@ returns-clause-meets g c =
         subst (λ (x : Pass). Meets (view_of x) c.args.note.seat.me.0 (view_of c.meet_at.new.pass)) (some-injective c.index_mut.result.now p (sym at ∙ there)) c.meet_at.ensures.meets,
       );
     })
-
-pub returns-clause-stay : goal.returns-clause-stay
-returns-clause-stay g c =
-    let lt = subst (λ (s : PassDeskState). c.args.lb < length s.desk.sizes) (sym c.self.view_is) c.requires.known in
-    let at = at_place c.self.inside.passes.items c.args.lb c.index_mut.result.now lt c.index_mut.ensures.value in
-    let d = c.self.inside in
-    let e = c.meet_at.ensures in
-    subst (λ (s : PassDeskState). StayPasses s.passes (set d.passes.items c.args.lb c.meet_at.new.pass)) c.self.view_is
-    (stay_set d.passes.items c.args.lb c.index_mut.result.now c.meet_at.new.pass at e.same.0 e.same.1 e.meets.origin e.meets.given)

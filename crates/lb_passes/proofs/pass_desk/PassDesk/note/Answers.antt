@@ -35,14 +35,24 @@ returns-clause-note g c = λ p there.
     let here : get_elem? d.passes.items c.args.lb ≡ some p = subst (λ (s : PassDeskState). get_elem? s.passes c.args.lb ≡ some p) (sym c.self.view_is) there in
     subst (λ (x : Pass). IsNoteOf x c.note_at.result) (some-injective c.index_mut.result.now p (sym at ∙ here)) c.note_at.ensures.note
 
-pub returns-clause-desk : goal.returns-clause-desk
-returns-clause-desk g c =
-    let lt = subst (λ (s : PassDeskState). c.args.lb < length s.desk.sizes) (sym c.self.view_is) c.requires.known in
-    let at = at_place c.self.inside.passes.items c.args.lb c.index_mut.result.now lt c.index_mut.ensures.value in
-    let d = c.self.inside in
-    ap (λ (ns : List ℕ). pass_state d.number ns d.lists.receipts.items d.lists.held.items d.fulls d.wides)
-    (sizes_set d.passes.items c.args.lb c.index_mut.result.now c.note_at.new.pass at (ap (λ (m : Me Journal PassView). m.0.origin) c.note_at.ensures.same.0))
-    ∙ ap (λ (s : PassDeskState). s.desk) c.self.view_is
+pub returns-clause-same : goal.returns-clause-same
+returns-clause-same g c = record {
+  desk =
+      let lt = subst (λ (s : PassDeskState). c.args.lb < length s.desk.sizes) (sym c.self.view_is) c.requires.known in
+      let at = at_place c.self.inside.passes.items c.args.lb c.index_mut.result.now lt c.index_mut.ensures.value in
+      let d = c.self.inside in
+      ap (λ (ns : List ℕ). pass_state d.number ns d.lists.receipts.items d.lists.held.items d.fulls d.wides)
+      (sizes_set d.passes.items c.args.lb c.index_mut.result.now c.note_at.new.pass at (ap (λ (m : Me Journal PassView). m.0.origin) c.note_at.ensures.same.0))
+      ∙ ap (λ (s : PassDeskState). s.desk) c.self.view_is;
+  stay =
+      let lt = subst (λ (s : PassDeskState). c.args.lb < length s.desk.sizes) (sym c.self.view_is) c.requires.known in
+      let at = at_place c.self.inside.passes.items c.args.lb c.index_mut.result.now lt c.index_mut.ensures.value in
+      let d = c.self.inside in
+      let e = c.note_at.ensures.same in
+      subst (λ (s : PassDeskState). StayPasses s.passes (set d.passes.items c.args.lb c.note_at.new.pass)) c.self.view_is
+      (stay_set d.passes.items c.args.lb c.index_mut.result.now c.note_at.new.pass at e.1 e.2
+      (ap (λ (m : Me Journal PassView). m.0.origin) e.0) (ap (λ (m : Me Journal PassView). m.0.given) e.0));
+}
 
 pub returns-clause-views : goal.returns-clause-views
 returns-clause-views g c =
@@ -51,13 +61,3 @@ returns-clause-views g c =
     let d = c.self.inside in
     views_set d.passes.items c.args.lb c.index_mut.result.now c.note_at.new.pass at (ap (λ (m : Me Journal PassView). m.0) c.note_at.ensures.same.0)
     ∙ ap (λ (s : PassDeskState). map view_of s.passes) c.self.view_is
-
-pub returns-clause-stay : goal.returns-clause-stay
-returns-clause-stay g c =
-    let lt = subst (λ (s : PassDeskState). c.args.lb < length s.desk.sizes) (sym c.self.view_is) c.requires.known in
-    let at = at_place c.self.inside.passes.items c.args.lb c.index_mut.result.now lt c.index_mut.ensures.value in
-    let d = c.self.inside in
-    let e = c.note_at.ensures.same in
-    subst (λ (s : PassDeskState). StayPasses s.passes (set d.passes.items c.args.lb c.note_at.new.pass)) c.self.view_is
-    (stay_set d.passes.items c.args.lb c.index_mut.result.now c.note_at.new.pass at e.1 e.2
-    (ap (λ (m : Me Journal PassView). m.0.origin) e.0) (ap (λ (m : Me Journal PassView). m.0.given) e.0))

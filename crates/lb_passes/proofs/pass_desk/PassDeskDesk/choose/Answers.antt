@@ -12,17 +12,16 @@ use Rattle.lb_passes.specs.Rooms.{AskFits}
 use Rattle.lb_passes.specs.declared.pass_view.PassView.{PassView}
 use Rattle.lb_passes.proofs.pass_desk.PassDeskDesk.choose.Goals as goal
 
-pub choose_at-done-requires-clause-of : goal.choose_at-done-requires-clause-of
-choose_at-done-requires-clause-of g c =
-    let lt = subst (λ (s : PassDeskState). c.args.lb < length s.desk.sizes) (sym c.self.view_is) c.requires.known in
-    of_place _ _ _ _ _ _ _ c.self.invariant lt c.index-self-lb.is c.index_mut.ensures.value
-
-pub choose_at-done-requires-clause-caller : goal.choose_at-done-requires-clause-caller
-choose_at-done-requires-clause-caller g c =
+pub choose_at-done-requires : goal.choose_at-done-requires
+choose_at-done-requires g c =
     let lt = subst (λ (s : PassDeskState). c.args.lb < length s.desk.sizes) (sym c.self.view_is) c.requires.known in
     let at = at_place c.self.inside.passes.items c.args.lb c.index_mut.result.now lt c.index_mut.ensures.value in
-    subst (λ (s : PassDeskState). IfSome s.desk.caller (λ n. c.args.session ≡ n)) (sym c.self.view_is) c.requires.caller
-    ∙ sym (c.self.invariant.numbers c.args.lb c.index_mut.result.now at)
+    record {
+      of = of_place _ _ _ _ _ _ _ c.self.invariant lt c.index-self-lb.is c.index_mut.ensures.value;
+      caller =
+          subst (λ (s : PassDeskState). IfSome s.desk.caller (λ n. c.args.session ≡ n)) (sym c.self.view_is) c.requires.caller
+          ∙ sym (c.self.invariant.numbers c.args.lb c.index_mut.result.now at);
+    }
 
 pub invariant_of-self : goal.invariant_of-self
 invariant_of-self g c =
@@ -59,18 +58,31 @@ returns-clause-err g c =
     (size_at d.passes.items c.args.lb c.index_mut.result.now at) d.lists done.new.lists d.fulls c.count_full.new.fulls d.wides c.args.session c.args.at
     done.result done.ensures.err c.count_full.ensures.counted)
 
-pub returns-clause-kept : goal.returns-clause-kept
-returns-clause-kept g c =
-    let lt = subst (λ (s : PassDeskState). c.args.lb < length s.desk.sizes) (sym c.self.view_is) c.requires.known in
-    let at = at_place c.self.inside.passes.items c.args.lb c.index_mut.result.now lt c.index_mut.ensures.value in
-    let done = c.choose_at-done in
-    let d = c.self.inside in
-    let origin = choose_origin (view_of c.index_mut.result.now) (view_of done.new.pass) d.lists done.new.lists _ c.args.ask.now done.result done.ensures.ok done.ensures.err in
-    let new = pass_state d.number (sizes_in (set d.passes.items c.args.lb done.new.pass)) done.new.lists.receipts.items done.new.lists.held.items c.count_full.new.fulls
-    c.self.inside.wides in
-    subst (λ (s : PassDeskState). KeepsDesk s.desk new) c.self.view_is
-    (keeps_desk d.number (sizes_in d.passes.items) _ d.lists.receipts.items _ d.lists.held.items _ d.fulls _ d.wides _
-    (sizes_set d.passes.items c.args.lb c.index_mut.result.now done.new.pass at origin) c.count_full.ensures.no_fewer (omega arith))
+pub returns-clause-keeps : goal.returns-clause-keeps
+returns-clause-keeps g c = record {
+  kept =
+      let lt = subst (λ (s : PassDeskState). c.args.lb < length s.desk.sizes) (sym c.self.view_is) c.requires.known in
+      let at = at_place c.self.inside.passes.items c.args.lb c.index_mut.result.now lt c.index_mut.ensures.value in
+      let done = c.choose_at-done in
+      let d = c.self.inside in
+      let origin = choose_origin (view_of c.index_mut.result.now) (view_of done.new.pass) d.lists done.new.lists _ c.args.ask.now done.result done.ensures.ok done.ensures.err in
+      let new = pass_state d.number (sizes_in (set d.passes.items c.args.lb done.new.pass)) done.new.lists.receipts.items done.new.lists.held.items c.count_full.new.fulls
+      c.self.inside.wides in
+      subst (λ (s : PassDeskState). KeepsDesk s.desk new) c.self.view_is
+      (keeps_desk d.number (sizes_in d.passes.items) _ d.lists.receipts.items _ d.lists.held.items _ d.fulls _ d.wides _
+      (sizes_set d.passes.items c.args.lb c.index_mut.result.now done.new.pass at origin) c.count_full.ensures.no_fewer (omega arith));
+  stay =
+      let lt = subst (λ (s : PassDeskState). c.args.lb < length s.desk.sizes) (sym c.self.view_is) c.requires.known in
+      let at = at_place c.self.inside.passes.items c.args.lb c.index_mut.result.now lt c.index_mut.ensures.value in
+      let d = c.self.inside in
+      let done = c.choose_at-done in
+      let v = view_of c.index_mut.result.now in
+      let w = view_of done.new.pass in
+      subst (λ (s : PassDeskState). StayPasses s.passes (set d.passes.items c.args.lb done.new.pass)) c.self.view_is
+      (stay_set d.passes.items c.args.lb c.index_mut.result.now done.new.pass at done.ensures.seat.of done.ensures.seat.number
+      (choose_origin v w d.lists done.new.lists _ c.args.ask.now done.result done.ensures.ok done.ensures.err)
+      (choose_given v w d.lists done.new.lists _ c.args.ask.now done.result done.ensures.ok done.ensures.err));
+}
 
 pub returns-clause-seen : goal.returns-clause-seen
 returns-clause-seen g c =
@@ -83,19 +95,6 @@ returns-clause-seen g c =
     subst (λ (s : PassDeskState). MaySee s new c.args.lb) c.self.view_is
     (choose_sees (desk_value d.number d.passes.items d.lists.receipts.items d.lists.held.items d.fulls d.wides) new c.args.lb c.index_mut.result.now done.new.pass d.lists done.new.lists _
     c.args.ask.now done.result at refl refl refl done.ensures.ok done.ensures.err)
-
-pub returns-clause-stay : goal.returns-clause-stay
-returns-clause-stay g c =
-    let lt = subst (λ (s : PassDeskState). c.args.lb < length s.desk.sizes) (sym c.self.view_is) c.requires.known in
-    let at = at_place c.self.inside.passes.items c.args.lb c.index_mut.result.now lt c.index_mut.ensures.value in
-    let d = c.self.inside in
-    let done = c.choose_at-done in
-    let v = view_of c.index_mut.result.now in
-    let w = view_of done.new.pass in
-    subst (λ (s : PassDeskState). StayPasses s.passes (set d.passes.items c.args.lb done.new.pass)) c.self.view_is
-    (stay_set d.passes.items c.args.lb c.index_mut.result.now done.new.pass at done.ensures.seat.of done.ensures.seat.number
-    (choose_origin v w d.lists done.new.lists _ c.args.ask.now done.result done.ensures.ok done.ensures.err)
-    (choose_given v w d.lists done.new.lists _ c.args.ask.now done.result done.ensures.ok done.ensures.err))
 
 pub returns-clause-fits : goal.returns-clause-fits
 returns-clause-fits g c =

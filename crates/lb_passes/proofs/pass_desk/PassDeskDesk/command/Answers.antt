@@ -11,17 +11,16 @@ use Rattle.lb_passes.specs.Rooms.{CommandFits}
 use Rattle.lb_passes.specs.declared.pass_view.PassView.{PassView}
 use Rattle.lb_passes.proofs.pass_desk.PassDeskDesk.command.Goals as goal
 
-pub command_at-done-requires-clause-of : goal.command_at-done-requires-clause-of
-command_at-done-requires-clause-of g c =
-    let lt = subst (λ (s : PassDeskState). c.args.lb < length s.desk.sizes) (sym c.self.view_is) c.requires.known in
-    of_place _ _ _ _ _ _ _ c.self.invariant lt c.index-self-lb.is c.index_mut.ensures.value
-
-pub command_at-done-requires-clause-caller : goal.command_at-done-requires-clause-caller
-command_at-done-requires-clause-caller g c =
+pub command_at-done-requires : goal.command_at-done-requires
+command_at-done-requires g c =
     let lt = subst (λ (s : PassDeskState). c.args.lb < length s.desk.sizes) (sym c.self.view_is) c.requires.known in
     let at = at_place c.self.inside.passes.items c.args.lb c.index_mut.result.now lt c.index_mut.ensures.value in
-    subst (λ (s : PassDeskState). IfSome s.desk.caller (λ n. c.args.session ≡ n)) (sym c.self.view_is) c.requires.caller
-    ∙ sym (c.self.invariant.numbers c.args.lb c.index_mut.result.now at)
+    record {
+      of = of_place _ _ _ _ _ _ _ c.self.invariant lt c.index-self-lb.is c.index_mut.ensures.value;
+      caller =
+          subst (λ (s : PassDeskState). IfSome s.desk.caller (λ n. c.args.session ≡ n)) (sym c.self.view_is) c.requires.caller
+          ∙ sym (c.self.invariant.numbers c.args.lb c.index_mut.result.now at);
+    }
 
 pub invariant_of-self : goal.invariant_of-self
 invariant_of-self g c =
@@ -63,18 +62,31 @@ returns-clause-held g c =
     command_held _ _ c.self.inside.lists c.command_at-done.new.lists _ c.args.command.now c.command_at-done.result c.command_at-done.ensures.ok c.command_at-done.ensures.err
     ∙ ap (λ (s : PassDeskState). s.desk.held) c.self.view_is
 
-pub returns-clause-kept : goal.returns-clause-kept
-returns-clause-kept g c =
-    let lt = subst (λ (s : PassDeskState). c.args.lb < length s.desk.sizes) (sym c.self.view_is) c.requires.known in
-    let at = at_place c.self.inside.passes.items c.args.lb c.index_mut.result.now lt c.index_mut.ensures.value in
-    let done = c.command_at-done in
-    let d = c.self.inside in
-    let origin = command_origin (view_of c.index_mut.result.now) (view_of done.new.pass) d.lists done.new.lists _ c.args.command.now done.result done.ensures.ok done.ensures.err in
-    let new = pass_state d.number (sizes_in (set d.passes.items c.args.lb done.new.pass)) done.new.lists.receipts.items done.new.lists.held.items c.count_refusal.new.fulls
-    c.count_refusal.new.wides in
-    subst (λ (s : PassDeskState). KeepsDesk s.desk new) c.self.view_is
-    (keeps_desk d.number (sizes_in d.passes.items) _ d.lists.receipts.items _ d.lists.held.items _ d.fulls _ d.wides _
-    (sizes_set d.passes.items c.args.lb c.index_mut.result.now done.new.pass at origin) c.count_refusal.ensures.no_fewer.0 c.count_refusal.ensures.no_fewer.1)
+pub returns-clause-keeps : goal.returns-clause-keeps
+returns-clause-keeps g c = record {
+  kept =
+      let lt = subst (λ (s : PassDeskState). c.args.lb < length s.desk.sizes) (sym c.self.view_is) c.requires.known in
+      let at = at_place c.self.inside.passes.items c.args.lb c.index_mut.result.now lt c.index_mut.ensures.value in
+      let done = c.command_at-done in
+      let d = c.self.inside in
+      let origin = command_origin (view_of c.index_mut.result.now) (view_of done.new.pass) d.lists done.new.lists _ c.args.command.now done.result done.ensures.ok done.ensures.err in
+      let new = pass_state d.number (sizes_in (set d.passes.items c.args.lb done.new.pass)) done.new.lists.receipts.items done.new.lists.held.items c.count_refusal.new.fulls
+      c.count_refusal.new.wides in
+      subst (λ (s : PassDeskState). KeepsDesk s.desk new) c.self.view_is
+      (keeps_desk d.number (sizes_in d.passes.items) _ d.lists.receipts.items _ d.lists.held.items _ d.fulls _ d.wides _
+      (sizes_set d.passes.items c.args.lb c.index_mut.result.now done.new.pass at origin) c.count_refusal.ensures.no_fewer.0 c.count_refusal.ensures.no_fewer.1);
+  stay =
+      let lt = subst (λ (s : PassDeskState). c.args.lb < length s.desk.sizes) (sym c.self.view_is) c.requires.known in
+      let at = at_place c.self.inside.passes.items c.args.lb c.index_mut.result.now lt c.index_mut.ensures.value in
+      let d = c.self.inside in
+      let done = c.command_at-done in
+      let v = view_of c.index_mut.result.now in
+      let w = view_of done.new.pass in
+      subst (λ (s : PassDeskState). StayPasses s.passes (set d.passes.items c.args.lb done.new.pass)) c.self.view_is
+      (stay_set d.passes.items c.args.lb c.index_mut.result.now done.new.pass at done.ensures.seat.of done.ensures.seat.number
+      (command_origin v w d.lists done.new.lists _ c.args.command.now done.result done.ensures.ok done.ensures.err)
+      (command_given v w d.lists done.new.lists _ c.args.command.now done.result done.ensures.ok done.ensures.err));
+}
 
 pub returns-clause-seen : goal.returns-clause-seen
 returns-clause-seen g c =
@@ -87,19 +99,6 @@ returns-clause-seen g c =
     subst (λ (s : PassDeskState). MaySee s new c.args.lb) c.self.view_is
     (command_sees (desk_value d.number d.passes.items d.lists.receipts.items d.lists.held.items d.fulls d.wides) new c.args.lb c.index_mut.result.now done.new.pass d.lists done.new.lists _
     c.args.command.now done.result at refl refl refl done.ensures.ok done.ensures.err)
-
-pub returns-clause-stay : goal.returns-clause-stay
-returns-clause-stay g c =
-    let lt = subst (λ (s : PassDeskState). c.args.lb < length s.desk.sizes) (sym c.self.view_is) c.requires.known in
-    let at = at_place c.self.inside.passes.items c.args.lb c.index_mut.result.now lt c.index_mut.ensures.value in
-    let d = c.self.inside in
-    let done = c.command_at-done in
-    let v = view_of c.index_mut.result.now in
-    let w = view_of done.new.pass in
-    subst (λ (s : PassDeskState). StayPasses s.passes (set d.passes.items c.args.lb done.new.pass)) c.self.view_is
-    (stay_set d.passes.items c.args.lb c.index_mut.result.now done.new.pass at done.ensures.seat.of done.ensures.seat.number
-    (command_origin v w d.lists done.new.lists _ c.args.command.now done.result done.ensures.ok done.ensures.err)
-    (command_given v w d.lists done.new.lists _ c.args.command.now done.result done.ensures.ok done.ensures.err))
 
 pub returns-clause-fits : goal.returns-clause-fits
 returns-clause-fits g c =

@@ -38,8 +38,8 @@ index_mut-requires g c =
     let lt = within_at d.passes.items c.into_pair-lb.result.0 got.pass got.found in
     omega (arith, lt, d.passes.ok.0)
 
-pub return_at-requires-clause-of : goal.return_at-requires-clause-of
-return_at-requires-clause-of g c =
+pub return_at-requires-clause-own : goal.return_at-requires-clause-own
+return_at-requires-clause-own g c =
     let d = c.self.inside in
     let pair = c.into_pair-lb.ensures in
     let had = had_pair _ _ _ _ d.lists.held.items pair.0 pair.1 (subst (λ (s : PassDeskState). holds s.desk.held (c.args.lease.lb, c.args.lease.lease.ticket) ≡ true) (sym c.self.view_is) c.requires.held) in
@@ -47,39 +47,34 @@ return_at-requires-clause-of g c =
     let lt = within_at d.passes.items c.into_pair-lb.result.0 got.pass got.found in
     let at = at_index d.passes.items c.into_pair-lb.result.0 c.index_mut.result.now lt c.index_mut.ensures.value in
     let lt' : c.into_pair-lb.result.0 < length d.books.now = omega (arith, lt, c.self.invariant.many) in
-    c.self.invariant.of _ _ c.index_mut.result.now (at_index d.books.now c.into_pair-lb.result.0 c.index-self-lb.result lt' c.index-self-lb.is) at
-    ∙ ap (λ (x : PassBook). x.table.shared.table_id) c.index-self-lb.is
+    record {
+      of =
+          c.self.invariant.of _ _ c.index_mut.result.now (at_index d.books.now c.into_pair-lb.result.0 c.index-self-lb.result lt' c.index-self-lb.is) at
+          ∙ ap (λ (x : PassBook). x.table.shared.table_id) c.index-self-lb.is;
+      caller =
+          subst (λ (s : PassDeskState). IfSome s.desk.caller (λ n. c.args.session ≡ n)) (sym c.self.view_is) c.requires.caller
+          ∙ sym (c.self.invariant.numbers c.into_pair-lb.result.0 c.index_mut.result.now at);
+    }
 
-pub return_at-requires-clause-caller : goal.return_at-requires-clause-caller
-return_at-requires-clause-caller g c =
-    let d = c.self.inside in
-    let pair = c.into_pair-lb.ensures in
-    let had = had_pair _ _ _ _ d.lists.held.items pair.0 pair.1 (subst (λ (s : PassDeskState). holds s.desk.held (c.args.lease.lb, c.args.lease.lease.ticket) ≡ true) (sym c.self.view_is) c.requires.held) in
-    let got = got_found d.passes.items d.lists.held.items (c.into_pair-lb.result.0, c.into_pair-lb.result.1) had c.self.invariant.got in
-    let lt = within_at d.passes.items c.into_pair-lb.result.0 got.pass got.found in
-    let at = at_index d.passes.items c.into_pair-lb.result.0 c.index_mut.result.now lt c.index_mut.ensures.value in
-    subst (λ (s : PassDeskState). IfSome s.desk.caller (λ n. c.args.session ≡ n)) (sym c.self.view_is) c.requires.caller
-    ∙ sym (c.self.invariant.numbers c.into_pair-lb.result.0 c.index_mut.result.now at)
-
-pub return_at-requires-clause-made : goal.return_at-requires-clause-made
-return_at-requires-clause-made g c =
-    let d = c.self.inside in
-    let pair = c.into_pair-lb.ensures in
-    let had = had_pair _ _ _ _ d.lists.held.items pair.0 pair.1 (subst (λ (s : PassDeskState). holds s.desk.held (c.args.lease.lb, c.args.lease.lease.ticket) ≡ true) (sym c.self.view_is) c.requires.held) in
-    let got = got_found d.passes.items d.lists.held.items (c.into_pair-lb.result.0, c.into_pair-lb.result.1) had c.self.invariant.got in
-    let lt = within_at d.passes.items c.into_pair-lb.result.0 got.pass got.found in
-    let at = at_index d.passes.items c.into_pair-lb.result.0 c.index_mut.result.now lt c.index_mut.ensures.value in
-    subst (λ (y : Pass). has_made c.into_pair-lb.result.1 (own_in (view_of y)) ≡ true) (some-injective got.pass c.index_mut.result.now (sym got.found ∙ at)) got.made
-
-pub return_at-requires-clause-still : goal.return_at-requires-clause-still
-return_at-requires-clause-still g c =
-    let d = c.self.inside in
-    let pair = c.into_pair-lb.ensures in
-    let had = had_pair _ _ _ _ d.lists.held.items pair.0 pair.1 (subst (λ (s : PassDeskState). holds s.desk.held (c.args.lease.lb, c.args.lease.lease.ticket) ≡ true) (sym c.self.view_is) c.requires.held) in
-    let got = got_found d.passes.items d.lists.held.items (c.into_pair-lb.result.0, c.into_pair-lb.result.1) had c.self.invariant.got in
-    let lt = within_at d.passes.items c.into_pair-lb.result.0 got.pass got.found in
-    let at = at_index d.passes.items c.into_pair-lb.result.0 c.index_mut.result.now lt c.index_mut.ensures.value in
-    subst (λ (y : Pass). is_returned c.into_pair-lb.result.1 (own_in (view_of y)) ≡ false) (some-injective got.pass c.index_mut.result.now (sym got.found ∙ at)) got.still
+pub return_at-requires-clause-out : goal.return_at-requires-clause-out
+return_at-requires-clause-out g c = record {
+  made =
+      let d = c.self.inside in
+      let pair = c.into_pair-lb.ensures in
+      let had = had_pair _ _ _ _ d.lists.held.items pair.0 pair.1 (subst (λ (s : PassDeskState). holds s.desk.held (c.args.lease.lb, c.args.lease.lease.ticket) ≡ true) (sym c.self.view_is) c.requires.held) in
+      let got = got_found d.passes.items d.lists.held.items (c.into_pair-lb.result.0, c.into_pair-lb.result.1) had c.self.invariant.got in
+      let lt = within_at d.passes.items c.into_pair-lb.result.0 got.pass got.found in
+      let at = at_index d.passes.items c.into_pair-lb.result.0 c.index_mut.result.now lt c.index_mut.ensures.value in
+      subst (λ (y : Pass). has_made c.into_pair-lb.result.1 (own_in (view_of y)) ≡ true) (some-injective got.pass c.index_mut.result.now (sym got.found ∙ at)) got.made;
+  still =
+      let d = c.self.inside in
+      let pair = c.into_pair-lb.ensures in
+      let had = had_pair _ _ _ _ d.lists.held.items pair.0 pair.1 (subst (λ (s : PassDeskState). holds s.desk.held (c.args.lease.lb, c.args.lease.lease.ticket) ≡ true) (sym c.self.view_is) c.requires.held) in
+      let got = got_found d.passes.items d.lists.held.items (c.into_pair-lb.result.0, c.into_pair-lb.result.1) had c.self.invariant.got in
+      let lt = within_at d.passes.items c.into_pair-lb.result.0 got.pass got.found in
+      let at = at_index d.passes.items c.into_pair-lb.result.0 c.index_mut.result.now lt c.index_mut.ensures.value in
+      subst (λ (y : Pass). is_returned c.into_pair-lb.result.1 (own_in (view_of y)) ≡ false) (some-injective got.pass c.index_mut.result.now (sym got.found ∙ at)) got.still;
+}
 
 pub invariant_of-self : goal.invariant_of-self
 invariant_of-self g c =
@@ -122,19 +117,33 @@ returns-clause-held g c =
     ∙ ap (λ (n : ℕ). without_last d.lists.held.items (n, c.into_pair-lb.result.1)) pair.0 ∙ ap (λ (n : ℕ). without_last d.lists.held.items (c.args.lease.lb, n)) pair.1
     ∙ ap (λ (s : PassDeskState). without_last s.desk.held (c.args.lease.lb, c.args.lease.lease.ticket)) c.self.view_is
 
-pub returns-clause-kept : goal.returns-clause-kept
-returns-clause-kept g c =
-    let d = c.self.inside in
-    let pair = c.into_pair-lb.ensures in
-    let had = had_pair _ _ _ _ d.lists.held.items pair.0 pair.1 (subst (λ (s : PassDeskState). holds s.desk.held (c.args.lease.lb, c.args.lease.lease.ticket) ≡ true) (sym c.self.view_is) c.requires.held) in
-    let got = got_found d.passes.items d.lists.held.items (c.into_pair-lb.result.0, c.into_pair-lb.result.1) had c.self.invariant.got in
-    let lt = within_at d.passes.items c.into_pair-lb.result.0 got.pass got.found in
-    let at = at_index d.passes.items c.into_pair-lb.result.0 c.index_mut.result.now lt c.index_mut.ensures.value in
-    let origin = ap (λ (x : PassView). x.origin) c.return_at.ensures.back.turn.after in
-    let new = pass_state d.number (sizes_in (set d.passes.items c.into_pair-lb.result.0 c.return_at.new.pass)) c.return_at.new.lists.receipts.items c.return_at.new.lists.held.items d.fulls d.wides in
-    subst (λ (s : PassDeskState). KeepsDesk s.desk new) c.self.view_is
-    (keeps_desk d.number (sizes_in d.passes.items) _ d.lists.receipts.items _ d.lists.held.items _ d.fulls d.fulls d.wides d.wides
-    (sizes_set d.passes.items c.into_pair-lb.result.0 c.index_mut.result.now c.return_at.new.pass at origin) (omega arith) (omega arith))
+pub returns-clause-keeps : goal.returns-clause-keeps
+returns-clause-keeps g c = record {
+  kept =
+      let d = c.self.inside in
+      let pair = c.into_pair-lb.ensures in
+      let had = had_pair _ _ _ _ d.lists.held.items pair.0 pair.1 (subst (λ (s : PassDeskState). holds s.desk.held (c.args.lease.lb, c.args.lease.lease.ticket) ≡ true) (sym c.self.view_is) c.requires.held) in
+      let got = got_found d.passes.items d.lists.held.items (c.into_pair-lb.result.0, c.into_pair-lb.result.1) had c.self.invariant.got in
+      let lt = within_at d.passes.items c.into_pair-lb.result.0 got.pass got.found in
+      let at = at_index d.passes.items c.into_pair-lb.result.0 c.index_mut.result.now lt c.index_mut.ensures.value in
+      let origin = ap (λ (x : PassView). x.origin) c.return_at.ensures.back.turn.after in
+      let new = pass_state d.number (sizes_in (set d.passes.items c.into_pair-lb.result.0 c.return_at.new.pass)) c.return_at.new.lists.receipts.items c.return_at.new.lists.held.items d.fulls d.wides in
+      subst (λ (s : PassDeskState). KeepsDesk s.desk new) c.self.view_is
+      (keeps_desk d.number (sizes_in d.passes.items) _ d.lists.receipts.items _ d.lists.held.items _ d.fulls d.fulls d.wides d.wides
+      (sizes_set d.passes.items c.into_pair-lb.result.0 c.index_mut.result.now c.return_at.new.pass at origin) (omega arith) (omega arith));
+  stay =
+      let d = c.self.inside in
+      let pair = c.into_pair-lb.ensures in
+      let had = had_pair _ _ _ _ d.lists.held.items pair.0 pair.1 (subst (λ (s : PassDeskState). holds s.desk.held (c.args.lease.lb, c.args.lease.lease.ticket) ≡ true) (sym c.self.view_is) c.requires.held) in
+      let got = got_found d.passes.items d.lists.held.items (c.into_pair-lb.result.0, c.into_pair-lb.result.1) had c.self.invariant.got in
+      let lt = within_at d.passes.items c.into_pair-lb.result.0 got.pass got.found in
+      let at = at_index d.passes.items c.into_pair-lb.result.0 c.index_mut.result.now lt c.index_mut.ensures.value in
+      let e = c.return_at.ensures in
+      let turn = e.back.turn in
+      subst (λ (s : PassDeskState). StayPasses s.passes (set d.passes.items c.into_pair-lb.result.0 c.return_at.new.pass)) c.self.view_is
+      (stay_set d.passes.items c.into_pair-lb.result.0 c.index_mut.result.now c.return_at.new.pass at e.seat.of e.seat.number
+      (ap (λ (x : PassView). x.origin) turn.after) (ap (λ (x : PassView). x.given) turn.after));
+}
 
 pub returns-clause-seen : goal.returns-clause-seen
 returns-clause-seen g c =
@@ -148,17 +157,3 @@ returns-clause-seen g c =
     let here = turn_sees (desk_value d.number d.passes.items d.lists.receipts.items d.lists.held.items d.fulls d.wides) new c.into_pair-lb.result.0 c.index_mut.result.now c.return_at.new.pass
     d.lists.receipts.items c.return_at.new.lists.receipts.items c.return_at.ensures.back.book at refl refl refl c.return_at.ensures.back.turn in
     subst (λ (n : ℕ). SeesAt c.args.self.now new n) pair.0 (subst (λ (s : PassDeskState). SeesAt s new c.into_pair-lb.result.0) c.self.view_is here)
-
-pub returns-clause-stay : goal.returns-clause-stay
-returns-clause-stay g c =
-    let d = c.self.inside in
-    let pair = c.into_pair-lb.ensures in
-    let had = had_pair _ _ _ _ d.lists.held.items pair.0 pair.1 (subst (λ (s : PassDeskState). holds s.desk.held (c.args.lease.lb, c.args.lease.lease.ticket) ≡ true) (sym c.self.view_is) c.requires.held) in
-    let got = got_found d.passes.items d.lists.held.items (c.into_pair-lb.result.0, c.into_pair-lb.result.1) had c.self.invariant.got in
-    let lt = within_at d.passes.items c.into_pair-lb.result.0 got.pass got.found in
-    let at = at_index d.passes.items c.into_pair-lb.result.0 c.index_mut.result.now lt c.index_mut.ensures.value in
-    let e = c.return_at.ensures in
-    let turn = e.back.turn in
-    subst (λ (s : PassDeskState). StayPasses s.passes (set d.passes.items c.into_pair-lb.result.0 c.return_at.new.pass)) c.self.view_is
-    (stay_set d.passes.items c.into_pair-lb.result.0 c.index_mut.result.now c.return_at.new.pass at e.seat.of e.seat.number
-    (ap (λ (x : PassView). x.origin) turn.after) (ap (λ (x : PassView). x.given) turn.after))

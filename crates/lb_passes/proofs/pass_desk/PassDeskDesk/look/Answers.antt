@@ -32,13 +32,23 @@ returns-clause-shown g c =
     c.look_in.result c.look_in.ensures.looks)
 
 pub returns-clause-same : goal.returns-clause-same
-returns-clause-same g c =
-    let lt = subst (λ (s : PassDeskState). c.args.lb < length s.desk.sizes) (sym c.self.view_is) c.requires.known in
-    let at = at_place c.self.inside.passes.items c.args.lb c.index_mut.result.now lt c.index_mut.ensures.value in
-    let turn = c.look_in.ensures.looks.turn in
-    ap (λ (ns : List ℕ). pass_state c.self.inside.number ns c.self.inside.lists.receipts.items c.self.inside.lists.held.items c.self.inside.fulls c.self.inside.wides)
-    (sizes_set c.self.inside.passes.items c.args.lb c.index_mut.result.now c.look_in.new.pass at (ap (λ (x : PassView). x.origin) turn.after))
-    ∙ ap (λ (s : PassDeskState). s.desk) c.self.view_is
+returns-clause-same g c = record {
+  desk =
+      let lt = subst (λ (s : PassDeskState). c.args.lb < length s.desk.sizes) (sym c.self.view_is) c.requires.known in
+      let at = at_place c.self.inside.passes.items c.args.lb c.index_mut.result.now lt c.index_mut.ensures.value in
+      let turn = c.look_in.ensures.looks.turn in
+      ap (λ (ns : List ℕ). pass_state c.self.inside.number ns c.self.inside.lists.receipts.items c.self.inside.lists.held.items c.self.inside.fulls c.self.inside.wides)
+      (sizes_set c.self.inside.passes.items c.args.lb c.index_mut.result.now c.look_in.new.pass at (ap (λ (x : PassView). x.origin) turn.after))
+      ∙ ap (λ (s : PassDeskState). s.desk) c.self.view_is;
+  stay =
+      let lt = subst (λ (s : PassDeskState). c.args.lb < length s.desk.sizes) (sym c.self.view_is) c.requires.known in
+      let at = at_place c.self.inside.passes.items c.args.lb c.index_mut.result.now lt c.index_mut.ensures.value in
+      let d = c.self.inside in
+      let turn = c.look_in.ensures.looks.turn in
+      subst (λ (s : PassDeskState). StayPasses s.passes (set d.passes.items c.args.lb c.look_in.new.pass)) c.self.view_is
+      (stay_set d.passes.items c.args.lb c.index_mut.result.now c.look_in.new.pass at c.look_in.ensures.seat.of c.look_in.ensures.seat.number
+      (ap (λ (x : PassView). x.origin) turn.after) (ap (λ (x : PassView). x.given) turn.after));
+}
 
 pub returns-clause-seen : goal.returns-clause-seen
 returns-clause-seen g c =
@@ -58,13 +68,3 @@ returns-clause-present g c =
     let at = at_place c.self.inside.passes.items c.args.lb c.index_mut.result.now lt c.index_mut.ensures.value in
     let d = c.self.inside in
     shows_set (desk_value d.number (set d.passes.items c.args.lb c.look_in.new.pass) d.lists.receipts.items d.lists.held.items d.fulls d.wides) c.self.inside.passes.items c.args.lb c.index_mut.result.now c.look_in.new.pass c.look_in.result at refl c.look_in.ensures.looks
-
-pub returns-clause-stay : goal.returns-clause-stay
-returns-clause-stay g c =
-    let lt = subst (λ (s : PassDeskState). c.args.lb < length s.desk.sizes) (sym c.self.view_is) c.requires.known in
-    let at = at_place c.self.inside.passes.items c.args.lb c.index_mut.result.now lt c.index_mut.ensures.value in
-    let d = c.self.inside in
-    let turn = c.look_in.ensures.looks.turn in
-    subst (λ (s : PassDeskState). StayPasses s.passes (set d.passes.items c.args.lb c.look_in.new.pass)) c.self.view_is
-    (stay_set d.passes.items c.args.lb c.index_mut.result.now c.look_in.new.pass at c.look_in.ensures.seat.of c.look_in.ensures.seat.number
-    (ap (λ (x : PassView). x.origin) turn.after) (ap (λ (x : PassView). x.given) turn.after))

@@ -12,5 +12,5 @@ meet-requires-clause-of g c = λ p at. c.requires.of ∙ sym (c.args.self.now.pl
 
 pub invariant_of-self : goal.invariant_of-self
 invariant_of-self g c = record {
-  placed = placed_stay _ _ _ _ _ c.args.self.now.placed c.meet.ensures.stay (ap (λ (d : DeskState). d.caller) c.meet.ensures.desk) (ap (λ (d : DeskState). d.sizes) c.meet.ensures.desk);
+  placed = placed_stay _ _ _ _ _ c.args.self.now.placed c.meet.ensures.same.stay (ap (λ (d : DeskState). d.caller) c.meet.ensures.same.desk) (ap (λ (d : DeskState). d.sizes) c.meet.ensures.same.desk);
 }

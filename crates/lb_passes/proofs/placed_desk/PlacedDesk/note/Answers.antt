@@ -11,7 +11,7 @@ note-requires g c = record { known = omega (arith, c.args.self.now.placed.sized)
 
 pub invariant_of-self : goal.invariant_of-self
 invariant_of-self g c = record {
-  placed = placed_stay _ _ _ _ _ c.args.self.now.placed c.note.ensures.stay (ap (λ (d : DeskState). d.caller) c.note.ensures.desk) (ap (λ (d : DeskState). d.sizes) c.note.ensures.desk);
+  placed = placed_stay _ _ _ _ _ c.args.self.now.placed c.note.ensures.same.stay (ap (λ (d : DeskState). d.caller) c.note.ensures.same.desk) (ap (λ (d : DeskState). d.sizes) c.note.ensures.same.desk);
 }
 
 pub returns-clause-of : goal.returns-clause-of

@@ -3,4 +3,4 @@ use Rattle.lb_passes.proofs.PlacedLaws.{placed_stay}
 use Rattle.lb_passes.proofs.placed_desk.PlacedDeskDesk.choose.Goals as goal
 
 pub invariant_of-self : goal.invariant_of-self
-invariant_of-self g c = record { placed = placed_stay _ _ _ _ _ c.args.self.now.placed c.choose.ensures.stay c.choose.ensures.kept.caller c.choose.ensures.kept.sizes }
+invariant_of-self g c = record { placed = placed_stay _ _ _ _ _ c.args.self.now.placed c.choose.ensures.keeps.stay c.choose.ensures.keeps.kept.caller c.choose.ensures.keeps.kept.sizes }

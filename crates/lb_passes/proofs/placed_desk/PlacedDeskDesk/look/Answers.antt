@@ -5,4 +5,4 @@ use Rattle.lb_passes.proofs.PlacedLaws.{placed_stay}
 use Rattle.lb_passes.proofs.placed_desk.PlacedDeskDesk.look.Goals as goal
 
 pub invariant_of-self : goal.invariant_of-self
-invariant_of-self g c = record { placed = placed_stay _ _ _ _ _ c.args.self.now.placed c.look.ensures.stay (ap (λ (d : DeskState). d.caller) c.look.ensures.same) (ap (λ (d : DeskState). d.sizes) c.look.ensures.same) }
+invariant_of-self g c = record { placed = placed_stay _ _ _ _ _ c.args.self.now.placed c.look.ensures.same.stay (ap (λ (d : DeskState). d.caller) c.look.ensures.same.desk) (ap (λ (d : DeskState). d.sizes) c.look.ensures.same.desk) }
