@@ -3,3 +3,4 @@ pub mod Rooms
 pub mod Counts
 pub mod Looks
 pub mod Turns
+pub mod Longest

@@ -7,8 +7,9 @@
 //! the lead on. All others take from the queue. The link of a client that was quick is told whether others are
 //! free, and then waits for 10 milliseconds at most before it says that it waits.
 //! Source: own rules: the limits of clients, and how a link lingers (docs/DECISIONS.md, "Clients that wait").
-//! Contract: `Places`, which loses no client and gives each again with what it had read ahead; `Stay::is_over`, which says when
-//! one has waited too long; `TcpLink::waits`, clause `looked`, for the 10 milliseconds. Read first: specs/Stays.antt, then src/places.rt.
+//! Contract: `Places`, which loses no client, gives each again with what it had read ahead, and says which one goes where too
+//! many wait; `Stay::is_over`, which says when one has waited too long; `TcpLink::waits`, clause `looked`, for the 10
+//! milliseconds. Read first: specs/Stays.antt, then src/places.rt.
 //! Errors: `IoError`; want of memory alone needs no cause.
 #![tactic(auto)]
 

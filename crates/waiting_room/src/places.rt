@@ -1,5 +1,6 @@
 //! The places of a waiting room: plain data, by which no client is lost.
-ghost use Rattle.std.specs.Prelude.{◌≡◌, ◌++◌, [], ◌∷◌, IfOk, IfErr, IfNone, IfSome, IsSome, OnErr, OnOk, length, slice_get, slice_set, true, false};
+ghost use Rattle.std.specs.Prelude.{◌≡◌, ◌+◌, ◌++◌, [], ◌∷◌, IfOk, IfErr, IfNone, IfSome, IsOk, OnErr, OnOk, Some, length, slice_get, slice_set, true, false};
+ghost use Rattle.waiting_room.specs.Longest.{GoesFirst, LongestIn};
 ghost use Rattle.waiting_room.specs.Rooms.{Changes, GivesBack, IsFreed, IsLookedOver, Stirs, TakesPlace, stay_at};
 ghost use Rattle.waiting_room.specs.Stays.{IsOver};
 
@@ -170,6 +171,7 @@ impl<C: Drop> Places<C> {
     pub fn give_back(&mut self, at: usize, stay: Stay, client: C) -> Result<(), C>
         ensures ok { OnOk result (GivesBack self.old at stay client self.new) }
         ensures err { IfErr result (λ back. (back ≡ client) × (self.new ≡ self.old)) }
+        ensures waits { slice_get self.old.places at ≡ Some (Place.Away false) → IsOk result }
     {
         match self.places.get(at) {
             Some(Place::Away(false)) => {
@@ -274,7 +276,7 @@ impl<C: Drop> Places<C> {
     /// The place of the client who goes where too many wait: of those between two requests the one that waited longest; where there is
     /// none, of those whose head isn't whole.
     pub fn longest(&self) -> Option<usize>
-        ensures { IfSome result (λ at. IsSome (stay_at self.now.places at)) }
+        ensures { GoesFirst self.now.places result }
     {
         match self.longest_in(Phase::Between) {
             Some(at) => Some(at),
@@ -284,19 +286,43 @@ impl<C: Drop> Places<C> {
 
     // The place of the one that waited longest in a phase.
     fn longest_in(&self, phase: Phase) -> Option<usize>
-        ensures { IfSome result (λ at. IsSome (stay_at self.now.places at)) }
+        ensures { LongestIn phase self.now.places (length self.now.places) result }
     {
         let mut best = None;
-        let mut since = u64::MAX;
-        for at in 0..self.places.len() {
-            match self.stay_at(at) {
-                Some(stay) if stay.phase == phase && stay.since < since => {
-                    since = stay.since;
-                    best = Some(at);
-                }
-                _ => {}
-            }
+        for at in 0..self.len() {
+            best = self.longer(phase, best, at);
         }
         best
+    }
+
+    // The place of the one that waited longest in a phase at the first places, with one place more.
+    fn longer(&self, phase: Phase, best: Option<usize>, at: usize) -> Option<usize>
+        requires { LongestIn phase self.now.places at best }
+        ensures { LongestIn phase self.now.places (at + 1) result }
+    {
+        let Some(stay) = self.stay_at(at) else {
+            return best;
+        };
+        if stay.phase != phase {
+            return best;
+        }
+        self.longer_of(phase, best, at, stay)
+    }
+
+    // The one of two places at which a client has waited longer in a phase.
+    fn longer_of(&self, phase: Phase, best: Option<usize>, at: usize, stay: Stay) -> Option<usize>
+        requires best { LongestIn phase self.now.places at best }
+        requires waits { stay_at self.now.places at ≡ Some stay }
+        requires phase { stay.phase ≡ phase }
+        ensures { LongestIn phase self.now.places (at + 1) result }
+    {
+        let Some(first) = best else {
+            return Some(at);
+        };
+        if stay.since < self.stay_at(first).unwrap().since {
+            Some(at)
+        } else {
+            best
+        }
     }
 }
