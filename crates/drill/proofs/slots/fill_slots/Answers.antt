@@ -21,8 +21,8 @@ pub slots-preserved : goal.slots-preserved
 slots-preserved g c = record {
   whole = c.put_slot.ensures.whole c.slots.invariant.whole;
   count = omega (arith, c.slots.invariant.count, c.put_slot.ensures.len);
-  parts = omega (arith, c.slots.invariant.parts, c.put_slot.ensures.len, c.split_off.ensures.parts_left);
-  amount = omega (arith, c.slots.invariant.amount, c.split_off.ensures.amount_left);
+  parts = omega (arith, c.slots.invariant.parts, c.put_slot.ensures.len, c.split_off.ensures.left.0);
+  amount = omega (arith, c.slots.invariant.amount, c.split_off.ensures.left.1);
   room = omega (arith, c.slots.invariant.room, c.put_slot.ensures.capacity);
 }
 
