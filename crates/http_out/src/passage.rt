@@ -1,7 +1,6 @@
 //! The passage of a reply to its client: whether a byte was written, and whether a write failed.
-ghost use Rattle.std.specs.Prelude.{◌≡◌, ◌≤◌, ◌||◌, IsErrOf};
-ghost use Rattle.jk_io.specs.Told.{Rose};
-ghost use Rattle.http_out.specs.Passage.{IsCalm, IsSent};
+ghost use Rattle.std.specs.Prelude.{◌≡◌, ◌||◌};
+ghost use Rattle.http_out.specs.Passage.{IsSent, WritesClient};
 
 use crate::reply_head::OutError;
 use jk_io::{IoError, Sink, write_counted};
@@ -21,11 +20,7 @@ pub fn send<C: Sink>(
     passage: &mut Passage,
 ) -> Result<(), OutError>
     ensures sent { IsSent piece.now passage.old passage.new (C.sent client.old) (C.sent client.new) result }
-    ensures same { (C.incoming client.new ≡ C.incoming client.old) × (C.received client.new ≡ C.received client.old)
-        × (C.beside client.new ≡ C.beside client.old) }
-    ensures no_fewer { C.faults client.old ≤ C.faults client.new }
-    ensures cause { IsErrOf result OutError.Fault → Rose (C.faults client.old) (C.faults client.new) }
-    ensures steady { IsCalm result → C.faults client.new ≡ C.faults client.old }
+    ensures writes { WritesClient C.Meanings client.old client.new result }
 {
     let mut written = 0;
     let answer = match write_counted(client, piece, &mut written) {

@@ -1,8 +1,7 @@
 //! A chunk, and the end of a reply, in one write each.
-ghost use Rattle.std.specs.Prelude.{◌≡◌, ◌≤◌, ◌++◌, [], true, IsErrOf};
-ghost use Rattle.jk_io.specs.Told.{Rose};
+ghost use Rattle.std.specs.Prelude.{◌≡◌, ◌++◌, [], true};
 ghost use Rattle.http_out.specs.Framing.{framed, closing_bytes, is_passed};
-ghost use Rattle.http_out.specs.Passage.{IsCalm, IsSent};
+ghost use Rattle.http_out.specs.Passage.{IsSent, WritesClient};
 
 use crate::framing::{Framing, put_closing, put_framed};
 use crate::passage::{Passage, send};
@@ -21,11 +20,7 @@ pub fn write_piece<C: Sink>(
 
     ensures sent { IsSent (text.old ++ framed framing chunk.now) passage.old passage.new (C.sent client.old) (C.sent client.new) result }
     ensures spent { text.new ≡ [] }
-    ensures same { (C.incoming client.new ≡ C.incoming client.old) × (C.received client.new ≡ C.received client.old)
-        × (C.beside client.new ≡ C.beside client.old) }
-    ensures no_fewer { C.faults client.old ≤ C.faults client.new }
-    ensures cause { IsErrOf result OutError.Fault → Rose (C.faults client.old) (C.faults client.new) }
-    ensures steady { IsCalm result → C.faults client.new ≡ C.faults client.old }
+    ensures writes { WritesClient C.Meanings client.old client.new result }
 {
     if text.is_empty() && !framing.is_chunked() {
         return send(client, chunk, false, passage);
@@ -47,11 +42,7 @@ pub fn write_closing<C: Sink>(
 ) -> Result<(), OutError>
     ensures sent { IsSent (text.old ++ closing_bytes framing) passage.old passage.new (C.sent client.old) (C.sent client.new) result }
     ensures spent { text.new ≡ [] }
-    ensures same { (C.incoming client.new ≡ C.incoming client.old) × (C.received client.new ≡ C.received client.old)
-        × (C.beside client.new ≡ C.beside client.old) }
-    ensures no_fewer { C.faults client.old ≤ C.faults client.new }
-    ensures cause { IsErrOf result OutError.Fault → Rose (C.faults client.old) (C.faults client.new) }
-    ensures steady { IsCalm result → C.faults client.new ≡ C.faults client.old }
+    ensures writes { WritesClient C.Meanings client.old client.new result }
 {
     let sent = match put_closing(text, framing) {
         Ok(()) => send(client, text.as_slice(), true, passage),
