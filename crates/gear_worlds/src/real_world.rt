@@ -1,5 +1,5 @@
 //! The real world: sockets, files and the system's clock.
-ghost use Rattle.std.specs.Prelude.{◌≡◌, ◌+◌, ◌<◌, ◌≤◌, IfOk, IsErrOf, IsSome, None, map};
+ghost use Rattle.std.specs.Prelude.{◌≡◌, ◌+◌, ◌<◌, ◌≤◌, IfOk, IsErrOf, IsSome, None, Some, map};
 ghost use Rattle.std.specs.Option.{option_copied, option_map};
 ghost use Rattle.jk_io.specs.Told.{Rose};
 ghost use Rattle.gear_worlds.specs.RealDoors.{door_clients};
@@ -67,7 +67,7 @@ impl<
 
     /// A world with no socket yet. With the last of `threads` gears it says on standard error where it listens.
     pub fn new(rt: &'r R, threads: u32) -> RealWorld<'r, R>
-        ensures { (result.threads ≡ threads) × (result.counts ≡ record { out = 0; failed = 0 }) }
+        ensures { (result.threads ≡ threads) × (result.counts ≡ record { out = 0; failed = 0 }) × (result.trouble ≡ None) }
     {
         RealWorld {
             rt,
@@ -112,7 +112,8 @@ impl<
     fn fail(&mut self, trouble: Trouble) -> IoError
         ensures error { result ≡ IoError.Failed }
         ensures rose { Rose self.old.counts.failed self.new.counts.failed × (self.old.counts.failed ≤ self.new.counts.failed) }
-        ensures first { IsSome self.old.trouble → self.new.trouble ≡ self.old.trouble }
+        ensures first { self.old.trouble ≡ None → self.new.trouble ≡ Some trouble }
+        ensures kept { IsSome self.old.trouble → self.new.trouble ≡ self.old.trouble }
         ensures same { self.new.counts.out ≡ self.old.counts.out }
     {
         if self.trouble.is_none() {
