@@ -1,5 +1,5 @@
 #!/usr/bin/env python3
-"""Commands that serve, over files and a world in memory, each with what comes out of it.
+"""Commands that serve, over files and a world in memory or over the real one, each with what comes out of it.
 
 Written from RFC 9112, the public AJPv1.3 protocol reference, and the rules of docs/FORMATS.md and docs/DECISIONS.md, and
 apart from the program's own code: replies and packets are put together by sessions.py, journals by hand.
@@ -12,6 +12,7 @@ apart from the program's own code: replies and packets are put together by sessi
     python3 vectors/serving.py joined > crates/serve_checks/data/serve/joined.txt
     python3 vectors/serving.py words > crates/serve_checks/data/serve/words.txt
     python3 vectors/serving.py drills > crates/serve_checks/data/serve/drills.txt
+    python3 vectors/serving.py fronts > crates/edge_checks/data/edge/fronts.txt
 """
 import re
 import sys
@@ -265,6 +266,52 @@ def joined():
     yield Joined("a HEAD has the head alone", request("HEAD", "/size/10", host) + request(path="/who", headers=last), head + reply(b"n1\n", last=True))
 
 
+class Front:
+    """A client before a front of the real world, which ends after it, before a container of the route n1. The front's dates are
+    told by their form."""
+
+    def __init__(self, name, asked, gets, words="--clients 1", site=b"worker.list=n1\n", lines=(), out=b""):
+        self.name, self.asked, self.gets, self.words, self.site, self.lines, self.out = name, asked, gets, words, site, lines, out
+
+    def show(self):
+        member = b"worker.n1.host=127.0.0.1\nworker.n1.port=\\1\n"
+        files = [("w", self.site + member), ("m", b"/*=" + re.match(rb"worker.list=(\w+)", self.site)[1] + b"\n"), ("client", self.asked)]
+        lines = [f"row {self.name}", f"words serve w m 127.0.0.1:\\2 1 {self.words}", *self.lines]
+        for name, content in files:
+            lines += [f"file {name}", *(line.replace("\\x5c1", "\\1") for line in text(content))]
+        got = re.sub(rb"Date: [^\r]*", b"Date: xxx, 00 xxx 0000 00:00:00 xxx", self.gets)
+        return "\n".join([*lines, "output", *text(got + b"status 0\n" + self.out)]) + "\n"
+
+
+def fronts():
+    """A container says its route for /who, N times x for /size/N, and a body's bytes again for /echo. The last request ends its session."""
+    host = (("Host", "h"),)
+    last = host + (("Connection", "close"),)
+    who = request(path="/who", headers=last)
+    yield Front("a client is told who answers", who, reply(b"n1\n", last=True))
+    sizes = (0, 1, 8184, 8185, 20000)
+    asked = b"".join(request(path=f"/size/{size}", headers=host) for size in sizes)
+    yield Front("replies of many sizes over one link", asked + request(path="/who", headers=(), old=True),
+                b"".join(reply(b"x" * size) for size in sizes) + reply(b"n1\n", last=True))
+    bodies = [b"x" * size for size in (1, 8184, 8186, 8187, 20000)]
+    asked = b"".join(request("POST", "/echo", host + (("Content-Length", str(len(body))),), body) for body in bodies)
+    yield Front("bodies of many sizes come back", asked + who, b"".join(map(reply, bodies)) + reply(b"n1\n", last=True))
+    head = dated(0, sessions.reply(b"", headers=[("Content-Length", "10")]))
+    yield Front("a HEAD has the head alone", request("HEAD", "/size/10", host) + who, head + reply(b"n1\n", last=True))
+    yield Front("an answer of the front's own", request(path="/%2F", headers=last), own(400))
+    yield Front("a stop ends the front", who, reply(b"n1\n", last=True), "--control ./front.sock", lines=["stopped ./front.sock"], out=b"ended\n")
+    # Each request is two entries. A hold cuts first a journal that has come to three fewer than --cut says: to two here.
+    balanced = b"worker.list=app\nworker.app.type=lb\nworker.app.balance_workers=n1\n"
+    three = request(path="/size/5?a=1", headers=host) + request("POST", "/echo", host + (("Content-Length", "3"),), b"abc") + who
+    gets = reply(b"xxxxx") + reply(b"abc") + reply(b"n1\n", last=True)
+    parts = [f"./app-{first:015}.jkj" for first in (0, 2, 4)]
+    logged = b"".join(b"127.0.0.1 n1 " + line for line in (b"GET /size/5?a=1 200 5\n", b"POST /echo 200 3\n", b"GET /who 200 3\n"))
+    yield Front("a journal and a log are kept in files", three, gets, "--clients 1 --journal . --log . --format %h\\s%w\\s%m\\s%U%q\\s%s\\s%b", balanced,
+                [f"checked {parts[0]}", "kept ./worker-0.log"], b"good 6\n" + logged)
+    yield Front("each part of a journal has a file of its own, and each line its moment", three, gets, "--clients 1 --journal . --cut 5 --log . --format %t", balanced,
+                [f"checked {' '.join(parts)}", "dated ./worker-0.log"], b"good 6\n" + b"[00/xxx/0000:00:00:00 +0000]\n" * 3)
+
+
 def words():
     for name, line in (("a word too many", "match w m x"), ("a word too few", "config"), ("an option of no command", "play --x"),
                        ("no THREADS", "serve w m 127.0.0.1:8080"), ("no thread", SERVE + "0"), ("too many threads", SERVE + "65"),
@@ -300,5 +347,5 @@ def drills():
     yield Row("a journal behind --", "drill 1 1 -- 1 journal", out=drill.one_journal(1).encode())
 
 
-print(f"# Made by vectors/serving.py {sys.argv[1]}. How a row is written stands at the head of serve_checks.\n")
-print("\n".join(row.show() for row in {"serving": serving, "faults": faults, "places": places, "logs": logs, "watch": watch, "joined": joined, "words": words, "drills": drills}[sys.argv[1]]()))
+print(f"# Made by vectors/serving.py {sys.argv[1]}. How a row is written stands at the head of {'edge' if sys.argv[1] == 'fronts' else 'serve'}_checks.\n")
+print("\n".join(row.show() for row in {"serving": serving, "faults": faults, "places": places, "logs": logs, "watch": watch, "joined": joined, "fronts": fronts, "words": words, "drills": drills}[sys.argv[1]]()))
