@@ -9,7 +9,6 @@ apart from the program's own code: replies and packets are put together by sessi
     python3 vectors/serving.py places > crates/serve_checks/data/serve/places.txt
     python3 vectors/serving.py logs > crates/serve_checks/data/serve/logs.txt
     python3 vectors/serving.py watch > crates/serve_checks/data/serve/watch.txt
-    python3 vectors/serving.py joined > crates/serve_checks/data/serve/joined.txt
     python3 vectors/serving.py words > crates/serve_checks/data/serve/words.txt
     python3 vectors/serving.py drills > crates/serve_checks/data/serve/drills.txt
     python3 vectors/serving.py fronts > crates/edge_checks/data/edge/fronts.txt
@@ -236,36 +235,6 @@ def watch():
     yield row("a member's links are pinged at its interval alone", " --watch 1", stays, HI + pong + HI, SITE + "worker.w1.connection_ping_interval=2\n")
 
 
-class Joined:
-    """A client before a front before a container of the route n1."""
-
-    def __init__(self, name, asked, gets):
-        self.name, self.asked, self.gets = name, asked, gets
-
-    def show(self):
-        files = [("w", b"worker.list=n1\nworker.n1.host=127.0.0.1\nworker.n1.port=\\1\n"), ("m", b"/*=n1\n"), ("client", self.asked)]
-        lines = [f"row {self.name}", "joined"]
-        for name, content in files:
-            lines += [f"file {name}", *(line.replace("\\x5c1", "\\1") for line in text(content))]
-        return "\n".join([*lines, "output", *text(self.gets)]) + "\n"
-
-
-def joined():
-    """A container says its route for /who, N times x for /size/N, and a body's bytes again for /echo. The last request ends its session."""
-    host = (("Host", "h"),)
-    last = host + (("Connection", "close"),)
-    yield Joined("a client is told who answers", request(path="/who", headers=last), reply(b"n1\n", last=True))
-    sizes = (0, 1, 8184, 8185, 20000)
-    asked = b"".join(request(path=f"/size/{size}", headers=host) for size in sizes)
-    yield Joined("replies of many sizes over one link", asked + request(path="/who", headers=(), old=True),
-                 b"".join(reply(b"x" * size) for size in sizes) + reply(b"n1\n", last=True))
-    bodies = [b"x" * size for size in (1, 8184, 8186, 8187, 20000)]
-    asked = b"".join(request("POST", "/echo", host + (("Content-Length", str(len(body))),), body) for body in bodies)
-    yield Joined("bodies of many sizes come back", asked + request(path="/who", headers=last), b"".join(map(reply, bodies)) + reply(b"n1\n", last=True))
-    head = dated(0, sessions.reply(b"", headers=[("Content-Length", "10")]))
-    yield Joined("a HEAD has the head alone", request("HEAD", "/size/10", host) + request(path="/who", headers=last), head + reply(b"n1\n", last=True))
-
-
 class Front:
     """A client before a front of the real world, which ends after it, before a container of the route n1. The front's dates are
     told by their form."""
@@ -348,4 +317,4 @@ def drills():
 
 
 print(f"# Made by vectors/serving.py {sys.argv[1]}. How a row is written stands at the head of {'edge' if sys.argv[1] == 'fronts' else 'serve'}_checks.\n")
-print("\n".join(row.show() for row in {"serving": serving, "faults": faults, "places": places, "logs": logs, "watch": watch, "joined": joined, "fronts": fronts, "words": words, "drills": drills}[sys.argv[1]]()))
+print("\n".join(row.show() for row in {"serving": serving, "faults": faults, "places": places, "logs": logs, "watch": watch, "fronts": fronts, "words": words, "drills": drills}[sys.argv[1]]()))

@@ -1,6 +1,6 @@
 //! Each row of each file, done once.
 
-use crate::{joined, meeting, serving};
+use crate::{meeting, serving};
 use anyhow::Result;
 use check_rows::comparing::wants;
 use check_rows::files::{print_count, read_rows};
@@ -10,14 +10,13 @@ use check_rows::texts::With;
 use jk_io::{Bytes, NoMemory};
 use std::alloc::Global;
 use std::fmt::Write;
-use std::net::{Net, TcpListener, TcpStream};
 use std::rt::Files;
 use std::sync::Wait;
 use std::thread::Threads;
 use std::time::Clock;
 
 /// The files of rows.
-static FILES: [&str; 9] = [
+static FILES: [&str; 8] = [
     "serve/words.txt",
     "serve/serving.txt",
     "serve/faults.txt",
@@ -26,11 +25,10 @@ static FILES: [&str; 9] = [
     "serve/watch.txt",
     "serve/drills.txt",
     "serve/meeting.txt",
-    "serve/joined.txt",
 ];
 
 /// What comes out of a row.
-fn told<R: Threads + Wait + Clock + Sync + Net<Listener = TcpListener, Stream = TcpStream>>(
+fn told<R: Threads + Wait + Clock + Sync>(
     rt: &R,
     alloc: Global,
     row: BlockRow<'_>,
@@ -38,14 +36,11 @@ fn told<R: Threads + Wait + Clock + Sync + Net<Listener = TcpListener, Stream = 
     if row.count("meeting") > 0 {
         return meeting::told(rt, alloc, row);
     }
-    if row.count("joined") > 0 {
-        return joined::told(rt, alloc, row);
-    }
     serving::told(rt, alloc, row)
 }
 
 /// Whether a row wants what came out of it. Shows what came out where it doesn't.
-fn is_wanted<R: Threads + Wait + Clock + Sync + Net<Listener = TcpListener, Stream = TcpStream>>(
+fn is_wanted<R: Threads + Wait + Clock + Sync>(
     rt: &R,
     alloc: Global,
     row: BlockRow<'_>,
@@ -60,7 +55,7 @@ fn is_wanted<R: Threads + Wait + Clock + Sync + Net<Listener = TcpListener, Stre
 }
 
 /// Whether a row comes out as it says; not, where it can't be read. Shows what came out otherwise.
-fn is_held<R: Threads + Wait + Clock + Sync + Net<Listener = TcpListener, Stream = TcpStream>>(
+fn is_held<R: Threads + Wait + Clock + Sync>(
     rt: &R,
     alloc: Global,
     lines: &str,
@@ -79,7 +74,7 @@ fn is_held<R: Threads + Wait + Clock + Sync + Net<Listener = TcpListener, Stream
 }
 
 /// Does a row, shows it where it comes out otherwise, and answers how many rows come out as they say, 1 or 0.
-fn judge_row<R: Threads + Wait + Clock + Sync + Net<Listener = TcpListener, Stream = TcpStream>>(
+fn judge_row<R: Threads + Wait + Clock + Sync>(
     rt: &R,
     alloc: Global,
     lines: &str,
@@ -100,7 +95,7 @@ fn judge_row<R: Threads + Wait + Clock + Sync + Net<Listener = TcpListener, Stre
 
 /// Does each row of a text, shows those that come out otherwise, and answers how many come out as they say. (A trait's method
 /// knows nothing of what its threads share, so these rows aren't judged by `block_judging`.)
-fn judge_rows<R: Threads + Wait + Clock + Sync + Net<Listener = TcpListener, Stream = TcpStream>>(
+fn judge_rows<R: Threads + Wait + Clock + Sync>(
     rt: &R,
     alloc: Global,
     text: &str,
@@ -113,44 +108,25 @@ fn judge_rows<R: Threads + Wait + Clock + Sync + Net<Listener = TcpListener, Str
     Ok(fits)
 }
 
-fn judge_text<
-    R: Threads
-        + Wait
-        + Clock
-        + Sync
-        + Net<Listener = TcpListener, Stream = TcpStream>
-        + Print
-        + AllocGlobal,
->(rt: &R, file: &str, text: &str) -> Result<()> {
+fn judge_text<R: Threads + Wait + Clock + Sync + Print + AllocGlobal>(
+    rt: &R,
+    file: &str,
+    text: &str,
+) -> Result<()> {
     let mut shown = String::new(rt.alloc());
     let rows = judge_rows(rt, rt.alloc(), text, &mut shown)?;
     print_count(rt, shown.as_str(), rows, "rows", file)
 }
 
-fn judge_file<
-    R: Threads
-        + Wait
-        + Clock
-        + Sync
-        + Net<Listener = TcpListener, Stream = TcpStream>
-        + Print
-        + AllocGlobal
-        + Files,
->(rt: &R, file: &str) -> Result<()> {
+fn judge_file<R: Threads + Wait + Clock + Sync + Print + AllocGlobal + Files>(
+    rt: &R,
+    file: &str,
+) -> Result<()> {
     judge_text(rt, file, read_rows(rt, file)?.as_str())
 }
 
 /// Shows each row that comes out otherwise, and how many of each file come out as they say.
-pub fn judge<
-    R: Threads
-        + Wait
-        + Clock
-        + Sync
-        + Net<Listener = TcpListener, Stream = TcpStream>
-        + Print
-        + AllocGlobal
-        + Files,
->(rt: &R) -> Result<()> {
+pub fn judge<R: Threads + Wait + Clock + Sync + Print + AllocGlobal + Files>(rt: &R) -> Result<()> {
     for file in &FILES {
         judge_file(rt, file)?;
     }

@@ -20,28 +20,19 @@
 //! first only once the second's client has its own answer. Its first four `file`s are the bytes of the first client and of
 //! its member, and of the second's. What comes out is what was sent on the links that were left.
 //!
-//! A row with a line `joined` has no command either: a front serves one client over the loopback, and a container the front. The
-//! client's bytes are those of the file `client`, and the container's port stands for `\1`. What comes out is what the client got.
-//!
 //! Otherwise what comes out is: what was written, `status N`, `faults N` of the world, and of each gear that came back
 //! the links that were left at its door, its talks with members, the segments on its shelf, and its log.
-//!
-//! Then looks at files that a worker writes, and at a gear of the real world, and shows each claim, and whether it holds.
 #![tactic(auto)]
 
 mod area;
 mod doing;
-mod gears;
-mod joined;
 mod meeting;
 mod serving;
 mod told;
 mod worlds;
 
 use anyhow::Result;
-use gear_worlds::RealWorld;
 
 fn main(rt: HostRuntime) -> Result<()> {
-    area::judge(&rt)?;
-    gears::judge(&rt, &mut RealWorld::new(&rt, 2))
+    area::judge(&rt)
 }

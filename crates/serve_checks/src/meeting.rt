@@ -136,7 +136,7 @@ fn gears_of<L: Drop>(
 }
 
 /// The configuration in a row; it must be read.
-pub fn config_of(alloc: Global, row: BlockRow<'_>) -> Result<Config, RowError> {
+fn config_of(alloc: Global, row: BlockRow<'_>) -> Result<Config, RowError> {
     let text = row.file(alloc, "w")?;
     if text.len() > MAX_INPUT_BYTES {
         return Err(RowError::Unreadable);
@@ -149,7 +149,7 @@ pub fn config_of(alloc: Global, row: BlockRow<'_>) -> Result<Config, RowError> {
 }
 
 /// The map in a row; it must be read.
-pub fn map_of(alloc: Global, row: BlockRow<'_>, config: &Config) -> Result<UriMap, RowError>
+fn map_of(alloc: Global, row: BlockRow<'_>, config: &Config) -> Result<UriMap, RowError>
     ensures { IfOk result (λ map. stands_in config.now map ≡ true) }
 {
     let text = row.file(alloc, "m")?;
@@ -184,10 +184,10 @@ fn sent_of<L: Shown>(alloc: Global, gears: &[OverLinks<L>]) -> Result<Bytes, NoM
 
 /// The site that the workers serve.
 #[derive(Clone, Copy)]
-pub struct Served<'a> {
-    pub config: &'a Config,
-    pub map: &'a UriMap,
-    pub ghost stands: { stands_in config.now map.now ≡ true },
+struct Served<'a> {
+    config: &'a Config,
+    map: &'a UriMap,
+    ghost stands: { stands_in config.now map.now ≡ true },
 }
 
 /// Serves the clients of two workers by a thread each, and says what was sent on the links that were left.
