@@ -1,7 +1,6 @@
 //! One session over memory.
 ghost use Rattle.std.specs.Prelude.{◌≡◌, true, None, length, IfOk};
 ghost use Rattle.exchange.specs.Requests.{sizes_of as sizes_in};
-ghost use Rattle.session_checks.specs.Starts.{IsDeskOf};
 ghost use Rattle.site_mounts.specs.Sites.{stands_in};
 
 use crate::sites::{config_of, map_of};
@@ -32,12 +31,30 @@ struct Row<'t> {
     of_member: bool,
 }
 
-/// A row and its site.
+/// A row and its site, whose map stands over its balancers.
 #[derive(Clone, Copy)]
 struct Case<'t> {
     row: Row<'t>,
     config: &'t Config,
     map: &'t UriMap,
+    ghost stands: { stands_in config.now map.now ≡ true },
+}
+
+/// A case, and the desk with which its session starts.
+struct CaseStart<'t> {
+    case: Case<'t>,
+    desk: PlainDesk,
+    ghost sizes: { desk.sizes ≡ sizes_in case.config.now.lbs },
+    ghost anyone: { desk.caller ≡ None },
+}
+
+/// A case, and the desk and the reach that its session leaves.
+#[derive(Drop)]
+struct CaseLeft<'t> {
+    case: Case<'t>,
+    desk: PlainDesk,
+    reach: MemReach,
+    ghost sizes: { desk.sizes ≡ sizes_in case.config.now.lbs },
 }
 
 /// A session whose client's bytes stand last in the row.
@@ -188,40 +205,14 @@ fn tell_mapped(
 ) -> Result<(), NoMemory>
     requires stands { stands_in config.now map.now ≡ true }
 {
-    tell_case(alloc, &Case { row, config, map }, out)
+    tell_case(alloc, Case { row, config, map }, out)
 }
 
-fn tell_case(alloc: Global, case: &Case<'_>, out: &mut String) -> Result<(), NoMemory>
-    requires stands { stands_in case.now.config.now case.now.map.now ≡ true }
-{
+fn tell_case(alloc: Global, case: Case<'_>, out: &mut String) -> Result<(), NoMemory> {
     let first = said(case.row.fields[1], "first=").unwrap_or(0);
-    let lbs = case.config.lbs.as_slice();
-    tell_desk(alloc, case, &mut desk_of(alloc, lbs, first)?, out)
-}
-
-fn tell_desk(
-    alloc: Global,
-    case: &Case<'_>,
-    desk: &mut PlainDesk,
-    out: &mut String,
-) -> Result<(), NoMemory>
-    requires stands { stands_in case.now.config.now case.now.map.now ≡ true }
-    requires desk { IsDeskOf case.now.config.now.lbs desk.old }
-{
-    tell_linked(alloc, case, desk, &mut client_of(alloc, case.row)?, out)
-}
-
-fn reach_over(
-    alloc: Global,
-    case: &Case<'_>,
-    links: MemLinkList,
-    failing: NumberList,
-) -> Result<MemReach, NoMemory>
-    ensures sizes { IfOk result (λ reach. reach.sizes ≡ sizes_in case.now.config.now.lbs) }
-    ensures idle { IfOk result (λ reach. reach.book.begun ≡ None) }
-{
-    let sizes = member_counts(alloc, case.config.lbs.as_slice())?;
-    Ok(MemReach::new(alloc, links, sizes, failing))
+    let desk = desk_of(alloc, case.config.lbs.as_slice(), first)?;
+    let mut client = client_of(alloc, case.row)?;
+    tell_over(alloc, CaseStart { case, desk }, &mut client, out)
 }
 
 fn reach_of(alloc: Global, case: &Case<'_>) -> Result<MemReach, NoMemory>
@@ -229,43 +220,24 @@ fn reach_of(alloc: Global, case: &Case<'_>) -> Result<MemReach, NoMemory>
     ensures idle { IfOk result (λ reach. reach.book.begun ≡ None) }
 {
     let links = links_of(alloc, case.row)?;
-    reach_over(
-        alloc,
-        case,
-        links,
-        numbers_of(alloc, said(case.row.fields[1], "dial="))?,
-    )
-}
-
-fn tell_linked(
-    alloc: Global,
-    case: &Case<'_>,
-    desk: &mut PlainDesk,
-    client: &mut PatientLink,
-    out: &mut String,
-) -> Result<(), NoMemory>
-    requires stands { stands_in case.now.config.now case.now.map.now ≡ true }
-    requires desk { IsDeskOf case.now.config.now.lbs desk.old }
-{
-    tell_over(alloc, case, desk, &mut reach_of(alloc, case)?, client, out)
+    let failing = numbers_of(alloc, said(case.row.fields[1], "dial="))?;
+    let sizes = member_counts(alloc, case.config.lbs.as_slice())?;
+    Ok(MemReach::new(alloc, links, sizes, failing))
 }
 
 /// Serves the session, and tells what it did.
 fn tell_over(
     alloc: Global,
-    case: &Case<'_>,
-    desk: &mut PlainDesk,
-    reach: &mut MemReach,
+    start: CaseStart<'_>,
     client: &mut PatientLink,
     out: &mut String,
-) -> Result<(), NoMemory>
-    requires stands { stands_in case.now.config.now case.now.map.now ≡ true }
-    requires desk { IsDeskOf case.now.config.now.lbs desk.old }
-    requires sizes { reach.old.sizes ≡ sizes_in case.now.config.now.lbs }
-    requires idle { reach.old.book.begun ≡ None }
-{
-    serve(alloc, case, desk, reach, client, out)?;
-    put_rest(case, desk, reach, client, out)
+) -> Result<(), NoMemory> {
+    let CaseLeft {
+        case,
+        mut desk,
+        reach,
+    } = serve(alloc, start, client, out)?;
+    put_rest(&case, &mut desk, &reach, client, out)
 }
 
 /// A client on this machine.
@@ -275,23 +247,16 @@ fn local(alloc: Global) -> Result<Peer, NoMemory> {
     })
 }
 
-fn serve(
+fn serve<'t>(
     alloc: Global,
-    case: &Case<'_>,
-    desk: &mut PlainDesk,
-    reach: &mut MemReach,
+    start: CaseStart<'t>,
     client: &mut PatientLink,
     out: &mut String,
-) -> Result<(), NoMemory>
-    requires stands { stands_in case.now.config.now case.now.map.now ≡ true }
-    requires desk { IsDeskOf case.now.config.now.lbs desk.old }
-    requires sizes { reach.old.sizes ≡ sizes_in case.now.config.now.lbs }
-    requires idle { reach.old.book.begun ≡ None }
-    ensures { desk.new.sizes ≡ desk.old.sizes }
-{
+) -> Result<CaseLeft<'t>, NoMemory> {
     let mut rows = ServedList::new(alloc);
-    let end = serve_into(alloc, case, desk, reach, client, &mut rows)?;
-    put_end(end, rows.as_slice(), out)
+    let (end, left) = serve_into(alloc, start, client, &mut rows)?;
+    put_end(end, rows.as_slice(), out)?;
+    Ok(left)
 }
 
 fn put_end(end: SessionEnd, rows: &[Served], out: &mut String) -> Result<(), NoMemory> {
@@ -319,21 +284,15 @@ fn put_stop(end: SessionEnd, out: &mut String) -> Result<(), NoMemory> {
     Ok(())
 }
 
-/// The session's end. Adds its rows.
-fn serve_into(
+/// The session's end, and what it leaves. Adds its rows.
+fn serve_into<'t>(
     alloc: Global,
-    case: &Case<'_>,
-    desk: &mut PlainDesk,
-    reach: &mut MemReach,
+    start: CaseStart<'t>,
     client: &mut PatientLink,
     rows: &mut ServedList,
-) -> Result<SessionEnd, NoMemory>
-    requires stands { stands_in case.now.config.now case.now.map.now ≡ true }
-    requires desk { IsDeskOf case.now.config.now.lbs desk.old }
-    requires sizes { reach.old.sizes ≡ sizes_in case.now.config.now.lbs }
-    requires idle { reach.old.book.begun ≡ None }
-    ensures { desk.new.sizes ≡ desk.old.sizes }
-{
+) -> Result<(SessionEnd, CaseLeft<'t>), NoMemory> {
+    let CaseStart { case, mut desk } = start;
+    let mut reach = reach_of(alloc, &case)?;
     let peer = local(alloc)?;
     let at = said(case.row.fields[1], "dated=");
     let mut clock = StepClock::new(numbers_of(alloc, at)?);
@@ -346,13 +305,14 @@ fn serve_into(
         dated: at.is_some(),
     };
     let mut around = Surroundings {
-        desk,
+        desk: &mut desk,
         clock: &mut clock,
-        reach,
+        reach: &mut reach,
         client,
         inbox: &mut inbox,
     };
-    Ok(serve_session(alloc, &site, &mut around, rows))
+    let end = serve_session(alloc, &site, &mut around, rows);
+    Ok((end, CaseLeft { case, desk, reach }))
 }
 
 fn put_balancers(case: &Case<'_>, desk: &mut PlainDesk, out: &mut String) -> Result<(), NoMemory>

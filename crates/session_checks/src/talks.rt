@@ -128,11 +128,13 @@ fn limit(most: Option<u64>) -> u64
     }
 }
 
-fn add_status(list: &mut FailList, status: Option<u64>) -> Result<(), NoMemory> {
+/// The status on which the talk fails, if the plan has one.
+fn fails_of(alloc: Global, status: Option<u64>) -> Result<FailList, NoMemory> {
+    let mut list = FailList::new(alloc);
     if let Some(status) = status {
         list.push((u16::try_from(status).unwrap_or(0), false))?;
     }
-    Ok(())
+    Ok(list)
 }
 
 fn forward(alloc: Global) -> Result<Bytes, NoMemory>
@@ -141,7 +143,7 @@ fn forward(alloc: Global) -> Result<Bytes, NoMemory>
     Bytes::from_slice(alloc, &FORWARD)
 }
 
-fn plan_with(alloc: Global, words: &str, first: Bytes) -> Result<TalkPlan, NoMemory>
+fn planned(alloc: Global, words: &str, first: Bytes) -> Result<TalkPlan, NoMemory>
     requires { length first ≤ PIECE }
     ensures plan { IfOk result IsPlan }
     ensures first { IfOk result (λ plan. plan.first ≡ first) }
@@ -158,22 +160,12 @@ fn plan_with(alloc: Global, words: &str, first: Bytes) -> Result<TalkPlan, NoMem
         last: false,
         date: None,
         close_on_client: words.contains("close"),
-        fail_on: FailList::new(alloc),
+        fail_on: fails_of(alloc, said(words, "fail="))?,
         limits: TalkLimits {
             pong: said(words, "pong=").unwrap_or(0),
             reply: said(words, "reply=").unwrap_or(0),
         },
     })
-}
-
-fn planned(alloc: Global, words: &str, first: Bytes) -> Result<TalkPlan, NoMemory>
-    requires { length first ≤ PIECE }
-    ensures plan { IfOk result IsPlan }
-    ensures first { IfOk result (λ plan. plan.first ≡ first) }
-{
-    let mut plan = plan_with(alloc, words, first)?;
-    add_status(&mut plan.fail_on, said(words, "fail="))?;
-    Ok(plan)
 }
 
 /// The first piece of a body of which nothing was taken.
