@@ -10,6 +10,7 @@
 mod area;
 mod counted_dial;
 mod gates;
+mod idle_reach;
 mod lists;
 mod log_area;
 mod logs;

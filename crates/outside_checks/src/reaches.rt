@@ -1,8 +1,9 @@
 //! Talks over links in memory: when they dial, what is noted after each failing call, and which links come back.
-ghost use Rattle.std.specs.Prelude.{◌≡◌, ◌<◌, [], ◌∷◌, None, false, true, slice_index, IfOk};
+ghost use Rattle.std.specs.Prelude.{◌≡◌, [], ◌∷◌, false, true, IfOk};
 ghost use Rattle.conn_pool.specs.Idle.{HasMember};
 
 use crate::counted_dial::CountedDial;
+use crate::idle_reach::{IdleReach, TwofoldReach};
 use crate::lists::{link_of, one_balancer};
 use crate::pools::small;
 use check_rows::ask;
@@ -28,19 +29,7 @@ pub fn tell<R: Wait>(
 ) -> Result<(), NoMemory> {
     let size = small(fields[1]);
     let sizes = one_balancer(alloc, &[size, size])?;
-    tell_with(alloc, &Pools::new(rt, alloc, &sizes)?, fields, out)
-}
-
-fn tell_with<R: Wait>(
-    alloc: Global,
-    pools: &Pools<'_, Idle<MemLink>, R>,
-    fields: &[&str; 8],
-    out: &mut String,
-) -> Result<(), NoMemory>
-    requires { HasMember pools.now 0 1 }
-{
-    let dial = dial_of(alloc, fields)?;
-    tell_over(alloc, pools, dial, fields[5], out)
+    tell_over(alloc, &Pools::new(rt, alloc, &sizes)?, fields, out)
 }
 
 /// A link whose reads fail after as many bytes as in `reads`, and whose writes after as many as in `writes`.
@@ -69,30 +58,28 @@ fn dial_of(alloc: Global, fields: &[&str; 8]) -> Result<CountedDial, NoMemory> {
 fn tell_over<R: Wait>(
     alloc: Global,
     pools: &Pools<'_, Idle<MemLink>, R>,
-    dial: CountedDial,
-    acts: &str,
+    fields: &[&str; 8],
     out: &mut String,
 ) -> Result<(), NoMemory>
     requires { HasMember pools.now 0 1 }
 {
-    let mut reach = PooledReach::new(pools, dial, MemTape::new(alloc));
-    let told = tell_talks(alloc, &mut reach, acts, out);
+    let dial = dial_of(alloc, fields)?;
+    let reach = PooledReach::new(pools, dial, MemTape::new(alloc));
+    let mut twofold = TwofoldReach { reach };
+    let told = tell_talks(alloc, &mut twofold, fields[5], out);
+    let TwofoldReach { reach } = twofold;
     let (dial, tape) = reach.into_parts();
     tell_noted(told, dial.asked, tape.talks(), out)
 }
 
 fn tell_talks<R: Reach>(
     alloc: Global,
-    reach: &mut R,
+    twofold: &mut TwofoldReach<R>,
     acts: &str,
     out: &mut String,
-) -> Result<(), NoMemory>
-    requires idle { (R.beside reach.old).runs ≡ false }
-    requires known { 1 < slice_index (R.beside reach.old).sizes 0 }
-    ensures idle { (R.beside reach.new).runs ≡ false }
-{
+) -> Result<(), NoMemory> {
     for act in acts.split(" & ") {
-        tell_talk(alloc, reach, act, out)?;
+        tell_talk(alloc, twofold, act, out)?;
     }
     Ok(())
 }
@@ -100,16 +87,11 @@ fn tell_talks<R: Reach>(
 /// Whether the link of a talk was new or kept; `none` where the talk didn't begin.
 fn tell_talk<R: Reach>(
     alloc: Global,
-    reach: &mut R,
+    twofold: &mut TwofoldReach<R>,
     act: &str,
     out: &mut String,
-) -> Result<(), NoMemory>
-    requires idle { (R.beside reach.old).runs ≡ false }
-    requires known { 1 < slice_index (R.beside reach.old).sizes 0 }
-    ensures idle { (R.beside reach.new).runs ≡ false }
-    ensures known { (R.beside reach.new).sizes ≡ (R.beside reach.old).sizes }
-{
-    match talk(alloc, reach, act) {
+) -> Result<(), NoMemory> {
+    match talk(alloc, twofold, act) {
         Some(true) => put_word(out, "new"),
         Some(false) => put_word(out, "kept"),
         None => put_word(out, "none"),
@@ -118,12 +100,7 @@ fn tell_talk<R: Reach>(
 
 /// A talk with the member whose number an act begins with. `fresh` asks for a new link, `ask` has four bytes sent and
 /// four read, and after `close` the link isn't to be kept.
-fn talk<R: Reach>(alloc: Global, reach: &mut R, act: &str) -> Option<bool>
-    requires idle { (R.beside reach.old).runs ≡ false }
-    requires known { 1 < slice_index (R.beside reach.old).sizes 0 }
-    ensures idle { (R.beside reach.new).runs ≡ false }
-    ensures known { (R.beside reach.new).sizes ≡ (R.beside reach.old).sizes }
-{
+fn talk<R: Reach>(alloc: Global, twofold: &mut TwofoldReach<R>, act: &str) -> Option<bool> {
     let host = Bytes::new(alloc);
     let asked = TalkAsked {
         lb: 0,
@@ -132,6 +109,7 @@ fn talk<R: Reach>(alloc: Global, reach: &mut R, act: &str) -> Option<bool>
         port: 8009,
         fresh: act.contains("fresh"),
     };
+    let reach = &mut twofold.reach;
     match reach.begin(alloc, &asked) {
         Ok(dialled) => {
             end_talk(reach, act);
@@ -214,16 +192,10 @@ fn tell_linked(
     failing: NumberList,
     out: &mut String,
 ) -> Result<(), NoMemory> {
-    let sizes = one_size(alloc)?;
-    tell_asked(alloc, &mut MemReach::new(alloc, links, sizes, failing), out)
-}
-
-fn tell_asked(alloc: Global, reach: &mut MemReach, out: &mut String) -> Result<(), NoMemory>
-    requires idle { reach.old.book.begun ≡ None }
-    requires sizes { reach.old.sizes ≡ 1 ∷ [] }
-{
-    ask_thrice(alloc, reach, out)?;
-    put_talks(reach.talks(), out)
+    let reach = MemReach::new(alloc, links, one_size(alloc)?, failing);
+    let mut idle = IdleReach { reach };
+    ask_thrice(alloc, &mut idle, out)?;
+    put_talks(idle.reach.talks(), out)
 }
 
 fn one_link(alloc: Global, bytes: &[u8]) -> Result<MemLinkList, NoMemory> {
@@ -239,13 +211,14 @@ fn one_size(alloc: Global) -> Result<ListOf<u32>, NoMemory>
     Ok(ListOf::from_vec(Vec::from_slice(alloc, &[1])?))
 }
 
-fn ask_thrice<R: Reach>(alloc: Global, reach: &mut R, out: &mut String) -> Result<(), NoMemory>
-    requires idle { (R.beside reach.old).runs ≡ false }
-    requires known { 0 < slice_index (R.beside reach.old).sizes 0 }
-{
+fn ask_thrice<R: Reach>(
+    alloc: Global,
+    idle: &mut IdleReach<R>,
+    out: &mut String,
+) -> Result<(), NoMemory> {
     let host = Bytes::new(alloc);
     let mut buf = [0u8; 8];
-    put_shown(out, &ask(alloc, reach, 0, &host, b"?", &mut buf))?;
-    put_shown(out, &ask(alloc, reach, 0, &host, b"?", &mut buf))?;
-    put_shown(out, &ask(alloc, reach, 0, &host, b"?", &mut buf))
+    put_shown(out, &ask(alloc, &mut idle.reach, 0, &host, b"?", &mut buf))?;
+    put_shown(out, &ask(alloc, &mut idle.reach, 0, &host, b"?", &mut buf))?;
+    put_shown(out, &ask(alloc, &mut idle.reach, 0, &host, b"?", &mut buf))
 }

@@ -17,7 +17,11 @@ const MOST_LINKS: usize = 100;
 /// the second one, with places for three.
 pub fn tell<R: Wait>(rt: &R, alloc: Global, acts: &str, out: &mut String) -> Result<(), NoMemory> {
     let sizes = sizes(alloc)?;
-    tell_acts(alloc, &Pools::new(rt, alloc, &sizes)?, acts, out)
+    let pools = Pools::new(rt, alloc, &sizes)?;
+    for act in acts.split(" & ") {
+        do_act(alloc, &pools, act, out)?;
+    }
+    Ok(())
 }
 
 fn sizes(alloc: Global) -> Result<SizeTable, NoMemory>
@@ -27,20 +31,6 @@ fn sizes(alloc: Global) -> Result<SizeTable, NoMemory>
     push_sizes(&mut sizes, &[1, 2])?;
     push_sizes(&mut sizes, &[3])?;
     Ok(sizes)
-}
-
-fn tell_acts<R: Wait>(
-    alloc: Global,
-    pools: &Pools<'_, u32, R>,
-    acts: &str,
-    out: &mut String,
-) -> Result<(), NoMemory>
-    requires { pools.now ≡ (1 ∷ 2 ∷ []) ∷ (3 ∷ []) ∷ [] }
-{
-    for act in acts.split(" & ") {
-        do_act(alloc, pools, act, out)?;
-    }
-    Ok(())
 }
 
 /// Does an act, which begins with its balancer and member.

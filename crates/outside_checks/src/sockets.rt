@@ -1,7 +1,8 @@
 //! Links of a real socket, alone and kept in a pool.
-ghost use Rattle.std.specs.Prelude.{◌≡◌, ◌<◌, false, true, OnOk, slice_index};
+ghost use Rattle.std.specs.Prelude.{◌≡◌, ◌<◌};
 ghost use Rattle.conn_pool.specs.Idle.{HasMember};
 
+use crate::idle_reach::{IdleReach, TalkingReach};
 use crate::reading::length_read;
 use crate::socket_pools::one_pool;
 use conn_pool::{Idle, NoTape, PooledReach, Pools};
@@ -118,12 +119,12 @@ fn echoes<A: Link, B: Link>(near: &mut A, far: &mut B, piece: &[u8]) -> bool
 }
 
 /// Begins a talk over the loopback: whether its link is new.
-fn begins<R: Reach>(alloc: Global, reach: &mut R, port: u16) -> Result<bool, IoError>
-    requires idle { (R.beside reach.old).runs ≡ false }
-    requires known { 0 < slice_index (R.beside reach.old).sizes 0 }
-    ensures runs { OnOk result ((R.beside reach.new).runs ≡ true) }
-    ensures known { (R.beside reach.new).sizes ≡ (R.beside reach.old).sizes }
-{
+fn begins<R: Reach + Drop>(
+    alloc: Global,
+    idle: IdleReach<R>,
+    port: u16,
+) -> Result<(TalkingReach<R>, bool), IoError> {
+    let IdleReach { mut reach } = idle;
     let host = Bytes::from_slice(alloc, b"127.0.0.1")?;
     let asked = TalkAsked {
         lb: 0,
@@ -132,86 +133,89 @@ fn begins<R: Reach>(alloc: Global, reach: &mut R, port: u16) -> Result<bool, IoE
         port,
         fresh: false,
     };
-    reach.begin(alloc, &asked)
+    let fresh = reach.begin(alloc, &asked)?;
+    Ok((TalkingReach { reach }, fresh))
 }
 
-/// Sends a piece to the far end and back, and ends the talk, whose link is kept.
-fn ends_with<R: Reach, B: Link>(reach: &mut R, far: &mut B, piece: &[u8]) -> bool
-    requires runs { (R.beside reach.old).runs ≡ true }
-    ensures idle { (R.beside reach.new).runs ≡ false }
-    ensures known { (R.beside reach.new).sizes ≡ (R.beside reach.old).sizes }
-{
-    let whole = echoes(reach, far, piece);
+/// Sends a piece to the far end and back, and ends the talk, whose link is kept: whether the piece came back whole.
+fn ends_with<R: Reach, B: Link>(
+    talking: TalkingReach<R>,
+    far: &mut B,
+    piece: &[u8],
+) -> (IdleReach<R>, bool) {
+    let TalkingReach { mut reach } = talking;
+    let whole = echoes(&mut reach, far, piece);
     reach.finish(true);
-    whole
+    (IdleReach { reach }, whole)
 }
 
 /// A talk over the link that was kept.
-fn serves_again<R: Reach, B: Link>(alloc: Global, reach: &mut R, port: u16, far: &mut B) -> bool
-    requires idle { (R.beside reach.old).runs ≡ false }
-    requires known { 0 < slice_index (R.beside reach.old).sizes 0 }
-{
-    match begins(alloc, reach, port) {
-        Ok(fresh) => ends_with(reach, far, &[7; 8192]) && !fresh,
+fn serves_again<R: Reach + Drop, B: Link>(
+    alloc: Global,
+    idle: IdleReach<R>,
+    port: u16,
+    far: &mut B,
+) -> bool {
+    match begins(alloc, idle, port) {
+        Ok((talking, fresh)) => {
+            let (_idle, whole) = ends_with(talking, far, &[7; 8192]);
+            whole && !fresh
+        }
         Err(_) => false,
     }
 }
 
 /// Ends the first talk over a link, and has a second one over the same.
-fn serves_twice<R: Reach, B: Link>(alloc: Global, reach: &mut R, port: u16, far: &mut B) -> bool
-    requires runs { (R.beside reach.old).runs ≡ true }
-    requires known { 0 < slice_index (R.beside reach.old).sizes 0 }
-{
-    ends_with(reach, far, b"first") && serves_again(alloc, reach, port, far)
+fn serves_twice<R: Reach + Drop, B: Link>(
+    alloc: Global,
+    talking: TalkingReach<R>,
+    port: u16,
+    far: &mut B,
+) -> bool {
+    let (idle, whole) = ends_with(talking, far, b"first");
+    whole && serves_again(alloc, idle, port, far)
 }
 
 /// Has a client of a door serve both talks, and leaves it.
-fn serves_both<R: Reach, D: Door>(
+fn serves_both<R: Reach + Drop, D: Door>(
     alloc: Global,
-    reach: &mut R,
+    talking: TalkingReach<R>,
     port: u16,
     door: &mut D,
     far: D::L,
 ) -> bool
-    requires runs { (R.beside reach.old).runs ≡ true }
-    requires known { 0 < slice_index (R.beside reach.old).sizes 0 }
     requires room { 0 < D.room door.old }
 {
     let mut far = far;
-    let served = serves_twice(alloc, reach, port, &mut far);
+    let served = serves_twice(alloc, talking, port, &mut far);
     door.leave(far);
     served
 }
 
 /// Whether a door's next client serves the running talk and another.
-fn is_served<R: Reach, D: Door>(alloc: Global, reach: &mut R, port: u16, door: &mut D) -> bool
-    requires runs { (R.beside reach.old).runs ≡ true }
-    requires known { 0 < slice_index (R.beside reach.old).sizes 0 }
-{
+fn is_served<R: Reach + Drop, D: Door>(
+    alloc: Global,
+    talking: TalkingReach<R>,
+    port: u16,
+    door: &mut D,
+) -> bool {
     match door.accept(alloc) {
-        Ok(Some((far, _))) => serves_both(alloc, reach, port, door, far),
+        Ok(Some((far, _))) => serves_both(alloc, talking, port, door, far),
         _ => false,
     }
 }
 
 /// Whether a door's one client serves a talk, whose link is new, and the next.
-fn keeps_its_link<R: Reach, D: Door>(alloc: Global, reach: &mut R, port: u16, door: &mut D) -> bool
-    requires idle { (R.beside reach.old).runs ≡ false }
-    requires known { 0 < slice_index (R.beside reach.old).sizes 0 }
-{
-    match begins(alloc, reach, port) {
-        Ok(fresh) => is_served(alloc, reach, port, door) && fresh,
+fn keeps_its_link<R: Reach + Drop, D: Door>(
+    alloc: Global,
+    idle: IdleReach<R>,
+    port: u16,
+    door: &mut D,
+) -> bool {
+    match begins(alloc, idle, port) {
+        Ok((talking, fresh)) => is_served(alloc, talking, port, door) && fresh,
         Err(_) => false,
     }
-}
-
-/// As `keeps_its_link`, over a reach that ends here.
-fn keeps_own<R: Reach + Drop, D: Door>(alloc: Global, reach: R, port: u16, door: &mut D) -> bool
-    requires idle { (R.beside reach).runs ≡ false }
-    requires known { 0 < slice_index (R.beside reach).sizes 0 }
-{
-    let mut reach = reach;
-    keeps_its_link(alloc, &mut reach, port, door)
 }
 
 fn keeps_in<D: Door, R: Net<Stream = TcpStream> + Wait>(
@@ -223,12 +227,8 @@ fn keeps_in<D: Door, R: Net<Stream = TcpStream> + Wait>(
 ) -> bool
     requires { HasMember pools.now 0 0 }
 {
-    keeps_own(
-        alloc,
-        PooledReach::new(pools, TcpDial::new(rt), NoTape),
-        port,
-        door,
-    )
+    let reach = PooledReach::new(pools, TcpDial::new(rt), NoTape);
+    keeps_its_link(alloc, IdleReach { reach }, port, door)
 }
 
 /// Whether a link is kept over the pool of one member, which has room for one link.

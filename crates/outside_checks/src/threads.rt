@@ -9,6 +9,13 @@ use std::alloc::Global;
 use std::sync::Wait;
 use std::thread::{self, Threads};
 
+/// Pools, of which the one of member 0.0 is there.
+#[derive(Drop)]
+struct KnownPools<'p, 'r, R> {
+    pools: &'p Pools<'r, u32, R>,
+    ghost known: { HasMember pools.now 0 0 },
+}
+
 /// The links that each of two threads has in the end.
 #[derive(Drop)]
 struct Hands {
@@ -30,77 +37,60 @@ pub fn pass_each_once<R: Threads + Wait + Sync>(rt: &R, alloc: Global) -> bool {
 
 fn pass_through_one<R: Threads + Wait + Sync>(rt: &R, alloc: Global) -> Result<bool, NoMemory> {
     let sizes = one_pool(alloc, 64)?;
-    pass_with(rt, alloc, &Pools::new(rt, alloc, &sizes)?)
-}
-
-fn pass_with<R: Threads + Wait + Sync>(
-    rt: &R,
-    alloc: Global,
-    pools: &Pools<'_, u32, R>,
-) -> Result<bool, NoMemory>
-    requires { HasMember pools.now 0 0 }
-{
-    pass_into(rt, alloc, pools, &mut empty_hands(alloc)?)
+    let pools = Pools::new(rt, alloc, &sizes)?;
+    let mut hands = empty_hands(alloc)?;
+    pass_into(rt, alloc, &KnownPools { pools: &pools }, &mut hands)
 }
 
 fn pass_into<R: Threads + Wait + Sync>(
     rt: &R,
     alloc: Global,
-    pools: &Pools<'_, u32, R>,
+    known: &KnownPools<'_, '_, R>,
     hands: &mut Hands,
-) -> Result<bool, NoMemory>
-    requires { HasMember pools.now 0 0 }
-{
-    let passed = pass_both(rt, pools, hands);
-    let idle = pools.take_all(alloc, 0, 0)?;
+) -> Result<bool, NoMemory> {
+    let passed = pass_both(rt, known, hands);
+    let idle = known.pools.take_all(alloc, 0, 0)?;
     Ok(passed && is_each_once(alloc, hands, idle.as_slice())?)
 }
 
-fn pass_both<R: Threads + Wait + Sync>(rt: &R, pools: &Pools<'_, u32, R>, hands: &mut Hands) -> bool
-    requires { HasMember pools.now 0 0 }
-{
+fn pass_both<R: Threads + Wait + Sync>(
+    rt: &R,
+    known: &KnownPools<'_, '_, R>,
+    hands: &mut Hands,
+) -> bool {
     let Hands { even, odd } = hands;
     let (first, second) = thread::join(
         rt,
-        || -> bool
-            requires { HasMember pools.now 0 0 }
-        { pass_through(pools, 0, even) },
-        || -> bool
-            requires { HasMember pools.now 0 0 }
-        { pass_through(pools, 1, odd) },
+        || pass_through(known, 0, even),
+        || pass_through(known, 1, odd),
     );
     first && second
 }
 
 /// Puts 50,000 links, `first` and each second one after it, and takes eight after each eight puts. False in want of
 /// memory.
-fn pass_through<R: Wait>(pools: &Pools<'_, u32, R>, first: u32, has: &mut Vec<u32>) -> bool
-    requires known { HasMember pools.now 0 0 }
+fn pass_through<R: Wait>(known: &KnownPools<'_, '_, R>, first: u32, has: &mut Vec<u32>) -> bool
     requires small { first < 2 }
 {
     for k in 0..50_000u32 {
-        if !put_one(pools, 2 * k + first, has) || k % 8 == 7 && !take_eight(pools, has) {
+        if !put_one(known, 2 * k + first, has) || k % 8 == 7 && !take_eight(known, has) {
             return false;
         }
     }
     true
 }
 
-fn put_one<R: Wait>(pools: &Pools<'_, u32, R>, link: u32, has: &mut Vec<u32>) -> bool
-    requires known { HasMember pools.now 0 0 }
-{
-    match pools.put(0, 0, link) {
+fn put_one<R: Wait>(known: &KnownPools<'_, '_, R>, link: u32, has: &mut Vec<u32>) -> bool {
+    match known.pools.put(0, 0, link) {
         Some(link) => has.push(link).is_ok(),
         None => true,
     }
 }
 
 /// Takes eight times, and adds the links that came.
-fn take_eight<R: Wait>(pools: &Pools<'_, u32, R>, has: &mut Vec<u32>) -> bool
-    requires known { HasMember pools.now 0 0 }
-{
+fn take_eight<R: Wait>(known: &KnownPools<'_, '_, R>, has: &mut Vec<u32>) -> bool {
     for _ in 0..8 {
-        if let Some(link) = pools.take(0, 0)
+        if let Some(link) = known.pools.take(0, 0)
             && has.push(link).is_err()
         {
             return false;
