@@ -2,7 +2,7 @@
 //!
 //! It makes N exchanges in each of nine Books: choices and returns alone, and with a maintenance and a command after
 //! each 64 exchanges. bench/scan.c picks by the same rule over plain arrays.
-ghost use Rattle.std.specs.Prelude.{◌≡◌, IfSome};
+ghost use Rattle.std.specs.Prelude.{◌≡◌};
 ghost use Rattle.lb_model.specs.declared.segment.TheConstants.{MODERN_RULES};
 
 use crate::done::{Done, show, tell};
@@ -15,6 +15,13 @@ use lb_model::{
 use std::alloc::Global;
 use std::io;
 use std::time::Instant;
+
+/// A Book of rules 2.
+#[derive(Drop)]
+pub struct MeasuredBook {
+    pub book: Book,
+    pub ghost modern: { book.rules ≡ MODERN_RULES },
+}
 
 const ASK: Ask = Ask {
     routed: None,
@@ -75,98 +82,81 @@ fn config(alloc: Global, members: u32) -> Option<LbConfig> {
 }
 
 /// A Book of rules 2 with this many members.
-pub fn book_of(alloc: Global, members: u32) -> Option<Book>
-    ensures { IfSome result (λ book. book.rules ≡ MODERN_RULES) }
-{
+pub fn book_of(alloc: Global, members: u32) -> Option<MeasuredBook> {
     match Book::start(alloc, config(alloc, members)?, 0, 0) {
-        Ok(book) => Some(book),
+        Ok(book) => Some(MeasuredBook { book }),
         Err(NoMemory) => None,
     }
 }
 
 /// A choice and its return: two holds. What is refused adds no entry.
-pub fn exchange(book: &mut Book, at: u64)
-    requires { book.old.rules ≡ MODERN_RULES }
-    ensures { book.new.rules ≡ MODERN_RULES }
-{
-    if let Ok(Picked { entry: _, lease }) = book.select(0, at, &ASK) {
+pub fn exchange(measured: &mut MeasuredBook, at: u64) {
+    if let Ok(Picked { entry: _, lease }) = measured.book.select(0, at, &ASK) {
         if let Some(lease) = lease {
-            let _returned = book.give_back(0, at, lease, DONE);
+            let _returned = measured.book.give_back(0, at, lease, DONE);
         }
     }
 }
 
-fn exchanges(book: &mut Book, at: u64, count: u64)
-    requires { book.old.rules ≡ MODERN_RULES }
-    ensures { book.new.rules ≡ MODERN_RULES }
-{
+fn exchanges(measured: &mut MeasuredBook, at: u64, count: u64) {
     for _ in 0..count {
-        exchange(book, at);
+        exchange(measured, at);
     }
 }
 
 /// A new distance of the first member.
-fn put_distance(book: &mut Book, at: u64, distance: u32)
-    requires { book.old.rules ≡ MODERN_RULES }
-    ensures { book.new.rules ≡ MODERN_RULES }
-{
+fn put_distance(measured: &mut MeasuredBook, at: u64, distance: u32) {
     let change = Change {
         activation: None,
         factor: None,
         distance: Some(distance),
         redirect: Redirect::Keep,
     };
-    let _changed = book.admin(0, at, &Command::Update { member: 0, change });
+    let _changed = measured
+        .book
+        .admin(0, at, &Command::Update { member: 0, change });
 }
 
 /// A stretch of exchanges, the maintenance that is then due, and a new distance of the first member.
-fn stretch(book: &mut Book, number: u64)
-    requires { book.old.rules ≡ MODERN_RULES }
-    ensures { book.new.rules ≡ MODERN_RULES }
-{
+fn stretch(measured: &mut MeasuredBook, number: u64) {
     let at = number.saturating_mul(MAINTAIN_SECONDS);
-    exchanges(book, at, STRETCH);
-    let _maintained = book.maintain_if_due(0, at);
-    put_distance(book, at, (number % 2) as u32);
+    exchanges(measured, at, STRETCH);
+    let _maintained = measured.book.maintain_if_due(0, at);
+    put_distance(measured, at, (number % 2) as u32);
 }
 
-fn stretches(book: &mut Book, count: u64)
-    requires { book.old.rules ≡ MODERN_RULES }
-    ensures { book.new.rules ≡ MODERN_RULES }
-{
+fn stretches(measured: &mut MeasuredBook, count: u64) {
     for number in 0..count {
-        stretch(book, number);
+        stretch(measured, number);
     }
 }
 
-fn measure_plain(rt: &HostRuntime, book: &mut Book, rounds: u64) -> io::Result<()>
-    requires { book.old.rules ≡ MODERN_RULES }
-    ensures { book.new.rules ≡ MODERN_RULES }
-{
-    let before = book.added();
+fn measure_plain(rt: &HostRuntime, measured: &mut MeasuredBook, rounds: u64) -> io::Result<()> {
+    let before = measured.book.added();
     let start = Instant::now(rt)?;
-    exchanges(book, 0, rounds);
-    let holds = book.added().saturating_sub(before);
+    exchanges(measured, 0, rounds);
+    let holds = measured.book.added().saturating_sub(before);
     show(rt, "holds of choices and returns", holds, start)
 }
 
-fn measure_mixed(rt: &HostRuntime, book: &mut Book, rounds: u64) -> io::Result<()>
-    requires { book.old.rules ≡ MODERN_RULES }
-{
-    let before = book.added();
+fn measure_mixed(rt: &HostRuntime, measured: &mut MeasuredBook, rounds: u64) -> io::Result<()> {
+    let before = measured.book.added();
     let start = Instant::now(rt)?;
-    stretches(book, rounds / STRETCH);
-    let holds = book.added().saturating_sub(before);
+    stretches(measured, rounds / STRETCH);
+    let holds = measured.book.added().saturating_sub(before);
     show(rt, "holds with maintenance and commands", holds, start)
 }
 
 /// Measures a Book once it keeps about `kept` entries.
-fn measure_filled(rt: &HostRuntime, book: &mut Book, kept: u64, rounds: u64) -> io::Result<()>
-    requires { book.old.rules ≡ MODERN_RULES }
-{
-    exchanges(book, 0, kept / 2);
-    measure_plain(rt, book, rounds)?;
-    measure_mixed(rt, book, rounds)
+fn measure_filled(
+    rt: &HostRuntime,
+    measured: &mut MeasuredBook,
+    kept: u64,
+    rounds: u64,
+) -> io::Result<()> {
+    exchanges(measured, 0, kept / 2);
+    measure_plain(rt, measured, rounds)?;
+    measure_mixed(rt, measured, rounds)
 }
 
 fn measure_book(rt: &HostRuntime, members: u32, kept: u64, rounds: u64) -> io::Result<()> {
@@ -176,7 +166,7 @@ fn measure_book(rt: &HostRuntime, members: u32, kept: u64, rounds: u64) -> io::R
         &[u64::from(members), kept],
     )?;
     match book_of(rt.alloc(), members) {
-        Some(mut book) => measure_filled(rt, &mut book, kept, rounds),
+        Some(mut measured) => measure_filled(rt, &mut measured, kept, rounds),
         None => Err(io::Error::other("the Book can't be made")),
     }
 }
@@ -192,9 +182,9 @@ pub fn measure(rt: &HostRuntime, rounds: u32) -> io::Result<()> {
 
 /// How many entries a Book of eight members has after this many stretches.
 pub fn add_entries(alloc: Global, rounds: u32) -> Option<Done> {
-    let mut book = book_of(alloc, 8)?;
-    stretches(&mut book, u64::from(rounds));
-    let added = book.added();
+    let mut measured = book_of(alloc, 8)?;
+    stretches(&mut measured, u64::from(rounds));
+    let added = measured.book.added();
     Some(Done {
         amount: added,
         figures: [added, 0, 0],

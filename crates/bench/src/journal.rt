@@ -2,15 +2,12 @@
 //!
 //! The text is that of N exchanges in a Book of two members, cut where a server cuts it. It has to be whole in memory; the
 //! check itself holds one segment.
-ghost use Rattle.std.specs.Prelude.{◌≡◌, ◌≤◌, length};
-ghost use Rattle.lb_model.specs.declared.segment.TheConstants.{MODERN_RULES};
 
-use crate::book::{book_of, exchange};
+use crate::book::{MeasuredBook, book_of, exchange};
 use crate::done::Done;
 use jk_io::{Bytes, MAX_INPUT_BYTES};
 use journal_text::write_segment;
 use journal_verdict::{Verdict, check_journal};
-use lb_book::Book;
 use lb_model::Segment;
 use std::alloc::Global;
 
@@ -25,38 +22,30 @@ fn put_lines(text: &mut Bytes, segment: &Segment) -> bool {
 }
 
 /// Cuts the journal, and puts the text of what was kept.
-fn put_segment(text: &mut Bytes, book: &mut Book) -> bool
-    requires { book.old.rules ≡ MODERN_RULES }
-    ensures { book.new.rules ≡ MODERN_RULES }
-{
-    match book.cut() {
+fn put_segment(text: &mut Bytes, measured: &mut MeasuredBook) -> bool {
+    match measured.book.cut() {
         Ok(segment) => put_lines(text, &segment),
         Err(_) => false,
     }
 }
 
-fn put_exchange(text: &mut Bytes, book: &mut Book) -> bool
-    requires { book.old.rules ≡ MODERN_RULES }
-    ensures { book.new.rules ≡ MODERN_RULES }
-{
-    exchange(book, 0);
-    book.kept() < CUT_AT || put_segment(text, book)
+fn put_exchange(text: &mut Bytes, measured: &mut MeasuredBook) -> bool {
+    exchange(measured, 0);
+    measured.book.kept() < CUT_AT || put_segment(text, measured)
 }
 
-fn put_exchanges(text: &mut Bytes, book: &mut Book, exchanges: u32) -> bool
-    requires { book.old.rules ≡ MODERN_RULES }
-{
+fn put_exchanges(text: &mut Bytes, measured: &mut MeasuredBook, exchanges: u32) -> bool {
     for _ in 0..exchanges {
-        if !put_exchange(text, book) {
+        if !put_exchange(text, measured) {
             return false;
         }
     }
-    put_segment(text, book)
+    put_segment(text, measured)
 }
 
 fn put_journal(alloc: Global, text: &mut Bytes, exchanges: u32) -> bool {
     match book_of(alloc, 2) {
-        Some(mut book) => put_exchanges(text, &mut book, exchanges),
+        Some(mut measured) => put_exchanges(text, &mut measured, exchanges),
         None => false,
     }
 }

@@ -1,5 +1,0 @@
-use Rattle.std.proofs.Common.{◌≡◌}
-use Rattle.bench.proofs.book.exchanges.Given as goal
-
-abbrev pub invariant-loop : goal.invariant-loop
-invariant-loop l = l.book.rules ≡ 2
