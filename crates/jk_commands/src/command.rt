@@ -1,7 +1,7 @@
 //! `run_jkd`: the command that was read of the words.
 ghost use Rattle.std.specs.Prelude.{◌≡◌, ◌↔◌, ◌⊎◌, true, false, Err, IfOk, IsOkAnd};
 ghost use Rattle.jk_io.specs.Told.{Rose};
-ghost use Rattle.plain_commands.specs.Endings.{plain_side};
+ghost use Rattle.plain_commands.specs.Endings.{number_of, plain_side};
 ghost use Rattle.plain_commands.specs.Plain.{InputIsDue};
 ghost use Rattle.jk_server.specs.Commands.{telling};
 ghost use Rattle.jk_commands.specs.Commands.{DoesAsked};
@@ -14,7 +14,8 @@ use gear_parts::{ToldWorld, World};
 use jk_cli::{Order, WordsError};
 use jk_io::{Door, Files, Sink, Source};
 use jk_server::{ContainerOrder, GearOrder, contain, serve};
-use plain_commands::run_plain;
+use plain_commands::{PlainRun, run_plain};
+use site_reports::SiteFound;
 use std::alloc::Global;
 use std::sync::Wait;
 use std::thread::Threads;
@@ -22,25 +23,26 @@ use std::thread::Threads;
 /// Lets a value go. A caller's check then doesn't write out the drop of a large value.
 pub fn let_go<T: Drop>(_it: T) {}
 
-/// Does a plain command, and answers its status.
+/// Does a plain command, and answers how it ended.
 fn do_plain<F: Files, S: Source, O: Sink>(
     alloc: Global,
     order: &Order,
     files: &mut F,
     input: &mut S,
     out: &mut O,
-) -> u8
+) -> PlainRun
     ensures plain { let at = plain_side F.Files S.Meanings O.Meanings in
-        RunsPlain order.now (at files.old input.old out.old) (at files.new input.new out.new) result }
+        RunsPlain order.now (at files.old input.old out.old) (at files.new input.new out.new) (number_of result.end) result.site }
     ensures files { (files.new ≡ files.old) ⊎ (reads_files order.now ≡ true) }
     ensures input { (input.new ≡ input.old)
         ⊎ InputIsDue (record { files = F.files files.old; incoming = S.incoming input.old }) order.now }
-    ensures nothing { result ≡ 2 → (files.new ≡ files.old) × (input.new ≡ input.old) }
+    ensures nothing { number_of result.end ≡ 2 → (files.new ≡ files.old) × (input.new ≡ input.old) }
 {
     run_plain(alloc, order, files, input, out)
 }
 
-/// Does the command that was read of the words, by `read_words`, and answers how it ended.
+/// Does the command that was read of the words, by `read_words`, and answers how it ended; a plain command that judged the files
+/// of a site also what it found of them.
 pub fn run_jkd<F: Files, S: Source, O: Sink, W: World, R: Threads + Wait + Sync>(
     rt: &R,
     alloc: Global,
@@ -49,16 +51,16 @@ pub fn run_jkd<F: Files, S: Source, O: Sink, W: World, R: Threads + Wait + Sync>
     input: &mut S,
     out: &mut O,
     world: &mut W,
-) -> JkdEnd
+) -> (JkdEnd, Option<SiteFound>)
 where
     <W::D as Door>::L: Send,
     // An order that asks for workers or threads: `serve`, `container` and `drill`. Its input isn't looked at.
     ensures serves { IfOk asked.now (λ o. is_served o ≡ true → DoesAsked (telling F.Files O.Meanings ⟦<W as ToldWorld>⟧.told)
-        o (files.old, out.old, world.old) (files.new, out.new, world.new) result) }
+        o (files.old, out.old, world.old) (files.new, out.new, world.new) result.0) }
 
     // Any other order: a plain command, or none. The world isn't asked.
     ensures plain { IfOk asked.now (λ o. is_served o ≡ false → let at = plain_side F.Files S.Meanings O.Meanings in
-        EndsPlain o (at files.old input.old out.old) (at files.new input.new out.new) result) }
+        EndsPlain o (at files.old input.old out.old) (at files.new input.new out.new) result.0 result.1) }
     ensures world { IfOk asked.now (λ o. is_served o ≡ false → world.new ≡ world.old) }
 
     // Files are read where the command has some, and of the input nothing unless a plain command reads it.
@@ -67,19 +69,22 @@ where
         InputIsDue (record { files = F.files files.old; incoming = S.incoming input.old }) o) }
 
     // No command, exactly by what was read of the words.
-    ensures no_command { (result ≡ EndOf.Status 2) ↔ IsNoCommand asked.now }
-    ensures nothing { result ≡ EndOf.Status 2 → (files.new ≡ files.old) × (input.new ≡ input.old) × (O.sent out.new ≡ O.sent out.old)
+    ensures no_command { (result.0 ≡ EndOf.Status 2) ↔ IsNoCommand asked.now }
+    ensures nothing { result.0 ≡ EndOf.Status 2 → (files.new ≡ files.old) × (input.new ≡ input.old) × (O.sent out.new ≡ O.sent out.old)
         × (world.new ≡ world.old) }
 
     // There was no memory for the order, and nothing is done.
-    ensures no_memory { asked.now ≡ Err WordsError.NoMemory → (result ≡ EndOf.Status 6) × (files.new ≡ files.old)
+    ensures no_memory { asked.now ≡ Err WordsError.NoMemory → (result.0 ≡ EndOf.Status 6) × (files.new ≡ files.old)
         × (input.new ≡ input.old) × (out.new ≡ out.old) × (world.new ≡ world.old) }
 
     // Only where the output's faults rose.
-    ensures output_fault { result ≡ EndOf.Status 5 → Rose (O.faults out.old) (O.faults out.new) }
+    ensures output_fault { result.0 ≡ EndOf.Status 5 → Rose (O.faults out.old) (O.faults out.new) }
 {
     match asked {
-        Ok(Order::Serve(order)) => EndOf::from(serve(rt, alloc, order, files, out, world)),
+        Ok(Order::Serve(order)) => (
+            EndOf::from(serve(rt, alloc, order, files, out, world)),
+            None,
+        ),
         Ok(
             Order::Container {
                 route,
@@ -93,7 +98,7 @@ where
                 threads: threads.get(),
                 asked: GearOrder::of_container(address, *clients),
             };
-            EndOf::from(contain(rt, alloc, order, world))
+            (EndOf::from(contain(rt, alloc, order, world)), None)
         }
         Ok(
             Order::Drill {
@@ -105,10 +110,13 @@ where
             },
         ) => {
             let order = DrillOrder::new(*seed, threads.get(), requests.get(), *text, *passes);
-            EndOf::from(write_drill(rt, alloc, order, out))
+            (EndOf::from(write_drill(rt, alloc, order, out)), None)
         }
-        Ok(order) => EndOf::Status(do_plain(alloc, order, files, input, out)),
-        Err(WordsError::Bad) => EndOf::Status(NO_COMMAND),
-        Err(WordsError::NoMemory) => EndOf::Status(NO_MEMORY),
+        Ok(order) => {
+            let PlainRun { end, site } = do_plain(alloc, order, files, input, out);
+            (EndOf::Status(end.status()), site)
+        }
+        Err(WordsError::Bad) => (EndOf::Status(NO_COMMAND), None),
+        Err(WordsError::NoMemory) => (EndOf::Status(NO_MEMORY), None),
     }
 }

@@ -2,40 +2,19 @@
 ghost use Rattle.std.specs.Prelude.{◌≤◌, IfSome, length};
 ghost use Rattle.jk_io.specs.declared.whole_input.TheConstants.{MAX_INPUT_BYTES};
 
-use jk_io::{Bytes, FileError, Files, ListOf, NoMemory};
-use remarks::ReadFile;
+use jk_io::{Bytes, FileError, Files, ListOf};
 use std::alloc::Global;
 
+/// A file that was read ahead.
+#[derive(Drop)]
+pub(crate) struct AheadFile {
+    pub name: Bytes,
+    pub text: Bytes,
+    pub ghost short: { length text ≤ MAX_INPUT_BYTES },
+}
+
 /// What was read ahead, the first read last. Each text is given once.
-pub(crate) type Ahead = ListOf<ReadFile>;
-
-fn copy_of(read: &ReadFile) -> Result<ReadFile, NoMemory> {
-    let text = match &read.text {
-        Some(text) => Some(text.copy()?),
-        None => None,
-    };
-    Ok(ReadFile {
-        name: read.name.copy()?,
-        text,
-        too_long: read.too_long,
-    })
-}
-
-fn turned(alloc: Global, reads: &[ReadFile]) -> Result<Ahead, NoMemory> {
-    let mut ahead = ListOf::new(alloc);
-    for read in reads.iter().rev() {
-        ahead.push(copy_of(read)?)?;
-    }
-    Ok(ahead)
-}
-
-/// What these reads gave; nothing where there is no memory for it.
-pub(crate) fn ahead_of(alloc: Global, reads: &[ReadFile]) -> Ahead {
-    match turned(alloc, reads) {
-        Ok(ahead) => ahead,
-        Err(NoMemory) => ListOf::new(alloc),
-    }
-}
+pub(crate) type Ahead = ListOf<AheadFile>;
 
 /// The text that was read ahead next, if it is of the file of this name.
 fn next_text(ahead: &mut Ahead, name: &[u8]) -> Option<Bytes>
@@ -43,7 +22,7 @@ fn next_text(ahead: &mut Ahead, name: &[u8]) -> Option<Bytes>
 {
     let read = ahead.pop()?;
     if read.name.as_slice() == name {
-        read.text
+        Some(read.text)
     } else {
         None
     }

@@ -164,8 +164,10 @@ where
     match front_order(alloc, address) {
         Ok(order) => {
             let asked = Ok(order);
-            let end = run_jkd(rt, alloc, &asked, files, &mut no_input(alloc), out, world);
+            let run = run_jkd(rt, alloc, &asked, files, &mut no_input(alloc), out, world);
             let_go(asked);
+            let (end, site) = run;
+            let_go(site);
             end
         }
         Err(NoMemory) => EndOf::Status(NO_MEMORY),
@@ -189,8 +191,10 @@ where
     match container_order(alloc, which) {
         Ok(order) => {
             let asked = Ok(order);
-            let end = run_jkd(rt, alloc, &asked, files, &mut no_input(alloc), out, world);
+            let run = run_jkd(rt, alloc, &asked, files, &mut no_input(alloc), out, world);
             let_go(asked);
+            let (end, site) = run;
+            let_go(site);
             end
         }
         Err(NoMemory) => EndOf::Status(NO_MEMORY),

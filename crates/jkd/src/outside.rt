@@ -7,7 +7,8 @@ ghost use Rattle.jk_commands.specs.Ends.{status_of};
 ghost use Rattle.jk_commands.specs.Orders.{is_served, IsNoCommand};
 ghost use Rattle.jk_commands.specs.Plain.{EndsPlain};
 
-use crate::ahead_files::{Ahead, AheadFiles};
+use crate::ahead_files::AheadFiles;
+use crate::effects::ReadAhead;
 use crate::telling::{asks_stop, reason, tell};
 use gear_parts::ToldWorld;
 use gear_worlds::{Trouble, World};
@@ -16,6 +17,7 @@ use jk_commands::{EndOf, JkdEnd, let_go, run_jkd};
 use jk_io::{Bytes, Door, Files, Sink, Source};
 use real_io::{RealFiles, StdIn, StdOut};
 use remarks::{CountedInput, Ended, KeptFiles, command_asked};
+use site_reports::SiteFound;
 use std::io::{Input, Write};
 use std::net::Net;
 use std::rt::Files as SystemFiles;
@@ -31,7 +33,15 @@ pub(crate) fn threads_of(asked: &Result<Order, WordsError>) -> u32 {
     }
 }
 
-/// Does what was read of the words, over any files, streams and world, and answers how it ended and the status that says so.
+/// How what was read of the words ended, what it found of the files of a site, and the status that says so.
+#[derive(Drop)]
+struct Outcome {
+    end: JkdEnd,
+    site: Option<SiteFound>,
+    status: u8,
+}
+
+/// Does what was read of the words, over any files, streams and world.
 fn do_in<F: Files, S: Source, O: Sink, W: World, R: AllocGlobal + Threads + Wait + Sync>(
     rt: &R,
     asked: &Result<Order, WordsError>,
@@ -39,19 +49,29 @@ fn do_in<F: Files, S: Source, O: Sink, W: World, R: AllocGlobal + Threads + Wait
     input: &mut S,
     out: &mut O,
     world: &mut W,
-) -> (JkdEnd, u8)
+) -> Outcome
 where
     <W::D as Door>::L: Send,
-    ensures status { result.1 ≡ status_of result.0 }
+    ensures status { result.status ≡ status_of result.end }
     ensures serves { IfOk asked.now (λ o. is_served o ≡ true → DoesAsked (telling F.Files O.Meanings ⟦<W as ToldWorld>⟧.told)
-        o (files.old, out.old, world.old) (files.new, out.new, world.new) result.0) }
+        o (files.old, out.old, world.old) (files.new, out.new, world.new) result.end) }
     ensures plain { IfOk asked.now (λ o. is_served o ≡ false → let s = plain_side F.Files S.Meanings O.Meanings in
-        EndsPlain o (s files.old input.old out.old) (s files.new input.new out.new) result.0) }
-    ensures no_command { (result.0 ≡ EndOf.Status 2) ↔ IsNoCommand asked.now }
+        EndsPlain o (s files.old input.old out.old) (s files.new input.new out.new) result.end result.site) }
+    ensures no_command { (result.end ≡ EndOf.Status 2) ↔ IsNoCommand asked.now }
 {
-    let end = run_jkd(rt, rt.alloc(), asked, files, input, out, world);
+    let (end, site) = run_jkd(rt, rt.alloc(), asked, files, input, out, world);
     let status = end.status();
-    (end, status)
+    Outcome { end, site, status }
+}
+
+/// What is told of the files of a site: what the command found, or what was found ahead of serving.
+fn told_site(found: Option<SiteFound>, ahead: Option<SiteFound>) -> Option<SiteFound> {
+    if found.is_some() {
+        let_go(ahead);
+        return found;
+    }
+    let_go(found);
+    ahead
 }
 
 /// Does the command in this world, over the system's files and streams, of which some were read ahead. Tells a person of it, and
@@ -64,13 +84,17 @@ pub(crate) fn do_outside<
     rt: &R,
     words: &[Bytes],
     asked: &Result<Order, WordsError>,
-    ahead: Ahead,
+    ahead: ReadAhead,
     world: &mut W,
     err: E,
 ) -> u8
 where
     <W::D as Door>::L: Send,
 {
+    let ReadAhead {
+        files: ahead,
+        refused,
+    } = ahead;
     let files = if asks_stop(asked) {
         RealFiles::sockets(rt)
     } else {
@@ -79,8 +103,9 @@ where
     let mut files = KeptFiles::new(rt.alloc(), AheadFiles::new(files, ahead));
     let mut input = CountedInput::new(StdIn::new(rt.reader()));
     let mut out = StdOut::new(rt);
-    let (end, status) = do_in(rt, asked, &mut files, &mut input, &mut out, world);
+    let Outcome { end, site, status } = do_in(rt, asked, &mut files, &mut input, &mut out, world);
     let_go(end);
+    let site = told_site(site, refused);
     if let Ok(reason) = reason(rt, asked, files.reads()) {
         let ended = Ended {
             command: command_asked(asked),
@@ -88,6 +113,7 @@ where
             status,
             reads: files.reads(),
             input: input.seen(),
+            site: site.as_ref(),
             reason: reason.as_bytes(),
         };
         tell(rt.alloc(), err, &ended);

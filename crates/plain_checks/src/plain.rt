@@ -1,16 +1,16 @@
 //! The plain commands over files, input and output in memory.
+use crate::words::let_go;
 use check_rows::comparing::wants;
 use check_rows::row::{BlockRow, RowError};
 use jk_cli::{Order, WordsError, read_words};
 use jk_io::{Bytes, Files, MemFiles, MemLink, NoMemory, NumberList, Sink, Source};
-use plain_commands::run_plain;
+use plain_commands::{PlainEnd, PlainRun, run_plain};
 use std::alloc::Global;
 
-/// The status of words that are no command.
-const NO_COMMAND: u8 = 2;
-
-/// The status of want of memory.
-const NO_MEMORY: u8 = 6;
+/// The end of words that no command is done of.
+fn without_site(end: PlainEnd) -> PlainRun {
+    PlainRun { end, site: None }
+}
 
 /// Does a command, and lets its order go.
 fn do_order<F: Files, S: Source, O: Sink>(
@@ -19,22 +19,22 @@ fn do_order<F: Files, S: Source, O: Sink>(
     files: &mut F,
     input: &mut S,
     out: &mut O,
-) -> u8 {
+) -> PlainRun {
     run_plain(alloc, &order, files, input, out)
 }
 
-/// Does the command of the words, where they are one, and answers its status.
+/// Does the command of the words, where they are one, and answers how it ended.
 pub fn do_words<F: Files, S: Source, O: Sink>(
     alloc: Global,
     words: &[Bytes],
     files: &mut F,
     input: &mut S,
     out: &mut O,
-) -> u8 {
+) -> PlainRun {
     match read_words(alloc, words) {
         Ok(order) => do_order(alloc, order, files, input, out),
-        Err(WordsError::Bad) => NO_COMMAND,
-        Err(WordsError::NoMemory) => NO_MEMORY,
+        Err(WordsError::Bad) => without_site(PlainEnd::NoCommand),
+        Err(WordsError::NoMemory) => without_site(PlainEnd::NoMemory),
     }
 }
 
@@ -88,9 +88,10 @@ fn over_input(
     input: &mut MemLink,
 ) -> Result<bool, RowError> {
     let mut out = output_of(alloc, row)?;
-    let status = do_words(alloc, words, files, input, &mut out);
+    let PlainRun { end, site } = do_words(alloc, words, files, input, &mut out);
+    let_go(site);
     let reads = input.received().len() as u64;
-    wants_command(alloc, row, status, reads, out.sent())
+    wants_command(alloc, row, end.status(), reads, out.sent())
 }
 
 fn over_files(

@@ -4,6 +4,7 @@ use crate::row_text::RowText;
 use check_rows::row::{BlockRow, RowError};
 use jk_cli::command_of;
 use jk_io::{Bytes, Files, MemFiles, MemLink, NoMemory, NumberList, Sink, Source};
+use plain_commands::PlainRun;
 use remarks::{CountedInput, Ended, KeptFiles, RemarkOut, remarks_on};
 use std::alloc::Global;
 
@@ -56,13 +57,14 @@ fn over_input<F: Files + Drop, S: Source + Drop>(
     input: &mut CountedInput<S>,
     out: &mut RowText,
 ) -> Result<(), NoMemory> {
-    let status = do_words(alloc, words, files, input, &mut empty_link(alloc));
+    let PlainRun { end, site } = do_words(alloc, words, files, input, &mut empty_link(alloc));
     let ended = Ended {
         command: command_of(words),
         words,
-        status,
+        status: end.status(),
         reads: files.reads(),
         input: input.seen(),
+        site: site.as_ref(),
         reason: REASON,
     };
     put_remarks(alloc, &ended, out)

@@ -169,7 +169,7 @@ fn put_order(out: &mut RowText, order: &Order) {
 }
 
 /// Lets a value go. A caller's check then doesn't write out the drop of a large value.
-fn let_go<T: Drop>(_it: T) {}
+pub(crate) fn let_go<T: Drop>(_it: T) {}
 
 /// The words as a command line has them.
 fn line_of<'w>(alloc: Global, words: &'w [Bytes]) -> Result<Vec<&'w str>, NoMemory> {

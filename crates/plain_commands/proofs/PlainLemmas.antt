@@ -1,5 +1,5 @@
 -- Inputs that are too long, and what reports print.
-use Rattle.std.proofs.Common.{ℕ, ◌≡◌, ◌<◌, Bool, true, List, [], ◌∷◌, length, Option, Some, None, Result, Ok, Err, IfOk, IfSome, codes, refl, sym, ap, subst, inl, inr, arith, length-append}
+use Rattle.std.proofs.Common.{ℕ, ◌≡◌, ◌<◌, Bool, true, List, [], ◌∷◌, length, Option, Some, None, Result, Ok, Err, IfOk, IfSome, refl, sym, ap, subst, inl, inr, arith, length-append}
 use Rattle.std.specs.Prelude.{IsErrOf}
 use Rattle.jk_cli.specs.declared.order.Order.TheVariants as order
 use Rattle.jk_io.specs.Told.{prepended}
@@ -7,13 +7,14 @@ use Rattle.jk_io.specs.declared.failures.IoError.{IoError}
 use Rattle.jk_io.specs.declared.failures.IoError.TheVariants as io
 use Rattle.jk_io.specs.declared.failures.NoMemory.{NoMemory}
 use Rattle.plain_commands.specs.Causes.{IsCaused}
-use Rattle.plain_commands.specs.Endings.{status_of, PrintsOfInput}
+use Rattle.plain_commands.specs.Endings.{status_of, IsTooLong, OfAnswer, PrintsOfInput}
 use Rattle.plain_commands.specs.Plain.{MatchesRead, Plain, PrintsOf, Reported, status_if, readings, InputIsDue}
 use Rattle.plain_commands.specs.Printed.{IsPrinted}
+use Rattle.site_reports.specs.Found.{is_refused}
 use Rattle.site_reports.specs.Readings.{CommandOutside, Reading, File, Input, AreRead, IsRead, StopsLong, has_file}
+use Rattle.site_reports.specs.declared.found.SiteFound.{SiteFound}
 use Rattle.site_reports.specs.declared.report.Report.{Report}
-use Rattle.plain_commands.specs.declared.play.Ending.TheVariants as ending
-use Rattle.plain_commands.specs.declared.play.Output.{Output}
+use Rattle.plain_commands.specs.declared.answered.PlainAnswer.{PlainAnswer}
 
 -- a front that is too long makes the whole too long, where that is told
 pub long_input : (bytes : List ℕ) (now : Option (List ℕ)) → 67108864 < length bytes → IfSome (prepended bytes now) (λ all. 67108864 < length all)
@@ -27,10 +28,12 @@ stops_early outside first second later (inl long) = inl long
 stops_early outside first second later (inr (text, read, inl long)) = inr (text, read, inl long)
 stops_early outside first second later (inr (text, read, inr (other, also, none))) = absurd none
 
--- a report is printed with its status
-pub reported : (reports : List ℕ → Bool → Type 0) (text out : List ℕ) (refused : Bool) (status : ℕ) → out ≡ text → status ≡ status_if refused
-    → reports text refused → Reported reports out status
-reported reports text out refused status same ended says = (refused, subst (λ (o : List ℕ). reports o refused) (sym same) says, ended)
+-- a report is printed with its status, and its site is handed on
+pub reported : (Finds : SiteFound → Type 0) (reports : List ℕ → Bool → Type 0) (text out : List ℕ) (f : SiteFound) (status : ℕ) (site : Option SiteFound)
+    → out ≡ text → status ≡ status_if (is_refused f) → site ≡ Some f → Finds f → reports text (is_refused f) → Reported Finds reports out status site
+reported Finds reports text out f status site same ended is finds says =
+    subst (λ (s : Option SiteFound). Reported Finds reports out status s) (sym is)
+    (finds, subst (λ (o : List ℕ). reports o (is_refused f)) (sym same) says, ended)
 
 -- what an answer says of everything, it says of this
 pub said_of : {A E X : Type 0} (P : X → A → Type 0) (x : X) (result : Result A E) → IfOk result (λ a. (y : X) → P y a) → IfOk result (P x)
@@ -60,16 +63,19 @@ pub match_due : (outside : CommandOutside) (workers map : List ℕ) (verbose : B
 match_due outside workers map verbose text rules first second = (refl, (text ∷ rules ∷ [], (first, (second, tt))))
 
 -- both files were read, and then the paths
-pub then_input : (outside : CommandOutside) (verbose : Bool) (w m workers map out : List ℕ) (status : ℕ) → IsRead outside (File w) workers → IsRead outside (File m) map
-    → PrintsOf outside (Input ∷ []) (MatchesRead workers map verbose) out status → Plain outside (order.Match w m verbose) out status
-then_input outside verbose w m workers map out status first second (inl (inl long, said, is)) = inl (inr (workers, first, inr (map, second, inl long)), said, is)
-then_input outside verbose w m workers map out status first second (inl (inr (text, read, none), said, is)) = absurd none
-then_input outside verbose w m workers map out status first second (inr (texts, read, of)) = inr (workers ∷ map ∷ texts, (first, (second, read)), of)
+pub then_input : (outside : CommandOutside) (verbose : Bool) (w m workers map out : List ℕ) (status : ℕ) (site : Option SiteFound)
+    → IsRead outside (File w) workers → IsRead outside (File m) map
+    → PrintsOf outside (Input ∷ []) (MatchesRead workers map verbose) out status site → Plain outside (order.Match w m verbose) out status site
+then_input outside verbose w m workers map out status site first second (inl (inl long, said, is, none)) =
+    inl (inr (workers, first, inr (map, second, inl long)), said, is, none)
+then_input outside verbose w m workers map out status site first second (inl (inr (text, read, never), said, is, none)) = absurd never
+then_input outside verbose w m workers map out status site first second (inr (texts, read, of)) = inr (workers ∷ map ∷ texts, (first, (second, read)), of)
 
 pub match_ok : {E : Type 0} (outside : CommandOutside) (verbose : Bool) (w m workers map : List ℕ) → IsRead outside (File w) workers → IsRead outside (File m) map
-    → (result : Result Output E) → IfOk result (λ o. PrintsOfInput outside.incoming (Input ∷ []) (MatchesRead workers map verbose) o)
-    → IfOk result (λ o. Plain outside (order.Match w m verbose) o.text (status_of o.ending))
-match_ok outside verbose w m workers map first second (Ok o) says = then_input outside verbose w m workers map o.text (status_of o.ending) first second (says outside.files)
+    → (result : Result PlainAnswer E) → IfOk result (λ o. PrintsOfInput outside.incoming (Input ∷ []) (MatchesRead workers map verbose) o)
+    → IfOk result (OfAnswer (Plain outside (order.Match w m verbose)))
+match_ok outside verbose w m workers map first second (Ok o) says =
+    then_input outside verbose w m workers map o.output.text (status_of o.output.ending) o.site first second (says outside.files)
 match_ok outside verbose w m workers map first second (Err e) says = tt
 
 -- ---- what is answered to texts that are read, and to one that is too long
@@ -83,29 +89,28 @@ cause_kept before now known result cause never = record { no_fewer = cause.no_fe
 pub never_caused : {B : Type 0} (before : ℕ) (result : Result B IoError) → (IsErrOf result io.Failed → ⊥) → IsCaused before before result
 never_caused before result never = record { no_fewer = omega arith; failed = λ failed. absurd (never failed) }
 
-pub long_ok : {X : Type 0} (outside : X → CommandOutside) (all : List Reading) (Of : List (List ℕ) → List ℕ → ℕ → Type 0) (result : Result Output IoError)
-    → IfOk result (λ o. o.text ≡ codes "too long\n") → IfOk result (λ o. o.ending ≡ ending.Refused) → ((x : X) → StopsLong (outside x) all)
-    → IfOk result (λ o. (x : X) → PrintsOf (outside x) all Of o.text (status_of o.ending))
-long_ok outside all Of (Ok o) text is long = λ x. inl (long x, text, ap status_of is)
-long_ok outside all Of (Err e) text is long = tt
+pub long_ok : {X : Type 0} (outside : X → CommandOutside) (all : List Reading) (Of : List (List ℕ) → List ℕ → ℕ → Option SiteFound → Type 0) (result : Result PlainAnswer IoError)
+    → IfOk result IsTooLong → ((x : X) → StopsLong (outside x) all) → IfOk result (λ o. (x : X) → OfAnswer (PrintsOf (outside x) all Of) o)
+long_ok outside all Of (Ok o) (text, is, none) long = λ x. inl (long x, text, ap status_of is, none)
+long_ok outside all Of (Err e) said long = tt
 
-pub read_ok : {X : Type 0} (outside : X → CommandOutside) (all : List Reading) (texts : List (List ℕ)) (Of : List (List ℕ) → List ℕ → ℕ → Type 0) (result : Result Output IoError)
-    → ((x : X) → AreRead (outside x) all texts) → IfOk result (λ o. Of texts o.text (status_of o.ending))
-    → IfOk result (λ o. (x : X) → PrintsOf (outside x) all Of o.text (status_of o.ending))
+pub read_ok : {X : Type 0} (outside : X → CommandOutside) (all : List Reading) (texts : List (List ℕ)) (Of : List (List ℕ) → List ℕ → ℕ → Option SiteFound → Type 0) (result : Result PlainAnswer IoError)
+    → ((x : X) → AreRead (outside x) all texts) → IfOk result (OfAnswer (Of texts)) → IfOk result (λ o. (x : X) → OfAnswer (PrintsOf (outside x) all Of) o)
 read_ok outside all texts Of (Ok o) read says = λ x. inr (texts, read x, says)
 read_ok outside all texts Of (Err e) read says = tt
 
 -- the same of one outside
-pub long_at : (outside : CommandOutside) (all : List Reading) (Of : List (List ℕ) → List ℕ → ℕ → Type 0) (result : Result Output IoError)
-    → IfOk result (λ o. o.text ≡ codes "too long\n") → IfOk result (λ o. o.ending ≡ ending.Refused) → StopsLong outside all
-    → IfOk result (λ o. PrintsOf outside all Of o.text (status_of o.ending))
-long_at outside all Of (Ok o) text is long = inl (long, text, ap status_of is)
-long_at outside all Of (Err e) text is long = tt
+pub long_at : (outside : CommandOutside) (all : List Reading) (Of : List (List ℕ) → List ℕ → ℕ → Option SiteFound → Type 0) (result : Result PlainAnswer IoError)
+    → IfOk result IsTooLong → StopsLong outside all → IfOk result (OfAnswer (PrintsOf outside all Of))
+long_at outside all Of (Ok o) (text, is, none) long = inl (long, text, ap status_of is, none)
+long_at outside all Of (Err e) said long = tt
 
 -- the report that was made is printed
-pub printed_ok : (reports : List ℕ → Bool → Type 0) (made : Result Report NoMemory) (result : Result Output IoError) → IfOk made (λ r. reports r.text r.refused)
-    → IfOk result (IsPrinted made) → IfOk result (λ o. Reported reports o.text (status_of o.ending))
-printed_ok reports made (Ok o) says (report, is, same, ended) =
-    reported reports report.text o.text report.refused (status_of o.ending) same ended
-    (subst (λ (m : Result Report NoMemory). IfOk m (λ r. reports r.text r.refused)) is says)
-printed_ok reports made (Err e) says printed = tt
+pub printed_ok : (Finds : SiteFound → Type 0) (reports : List ℕ → Bool → Type 0) (made : Result Report NoMemory) (result : Result PlainAnswer IoError)
+    → IfOk made (λ r. Finds r.found) → IfOk made (λ r. reports r.text (is_refused r.found)) → IfOk result (IsPrinted made)
+    → IfOk result (OfAnswer (Reported Finds reports))
+printed_ok Finds reports made (Ok o) finds says (report, is, same, ended, site) =
+    reported Finds reports report.text o.output.text report.found (status_of o.output.ending) o.site same ended site
+    (subst (λ (m : Result Report NoMemory). IfOk m (λ r. Finds r.found)) is finds)
+    (subst (λ (m : Result Report NoMemory). IfOk m (λ r. reports r.text (is_refused r.found))) is says)
+printed_ok Finds reports made (Err e) finds says printed = tt

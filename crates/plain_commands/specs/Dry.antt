@@ -1,8 +1,8 @@
 -- The output of `dry` and `log`: one session over memory. Of them read this first.
-use Rattle.std.specs.Prelude.{◌≡◌, ℕ, Bool, false, List, [], ◌∷◌, Some, IsSomeAnd, Result, Ok, Err, codes, reverse}
+use Rattle.std.specs.Prelude.{◌≡◌, ℕ, Bool, List, [], ◌∷◌, Some, IsSomeAnd, codes, reverse}
 use Rattle.request_log.specs.Lines.{log_of}
 use Rattle.request_log.specs.declared.format.Part.{Part}
-use Rattle.site_config.specs.Refusals.{LineRefusal}
+use Rattle.jk_io.specs.Memory.{MemLinkState}
 use Rattle.jk_io.specs.MemReaches.{MemReachState}
 use Rattle.jk_io.specs.declared.reaching.Talk.{Talk}
 use Rattle.lb_model.specs.declared.served.Served.{Served}
@@ -10,9 +10,8 @@ use Rattle.lb_book.specs.Journal.{Journal}
 use Rattle.lb_book.specs.PlainDesks.{plain_state}
 use Rattle.site_reports.specs.Starts.{AreStarts}
 use Rattle.site_config.specs.declared.config.Config.{Config}
-use Rattle.site_mounts.specs.Lines.{read_text}
 use Rattle.site_mounts.specs.declared.rule.Rule.{Rule}
-use Rattle.site_reports.specs.Reports.{OfWorkers, PrintsRefusal}
+use Rattle.site_reports.specs.Reports.{OfSite}
 use Rattle.client_session.specs.Parts.{HasParts}
 use Rattle.client_session.specs.Requests.{Visit, undated, visit}
 use Rattle.client_session.specs.Sessions.{IsSession}
@@ -70,6 +69,11 @@ pub record IsDryRun (c : Config) (rules : List Rule) (request reply : List ℕ) 
   pub run : IsSessionRun (dry_visit c rules) (first_standing books request) talks sent end rows
   pub over : AreOverReply reply talks
 
+-- the same of a client's link and a reach as they were before it and are after it, unless a call of theirs failed
+abbrev pub RunsIfCalm : Config → List Rule → (reply : List ℕ) → (client client_now : MemLinkState) → (reach_now : MemReachState) → SessionEnd → List Served → Type 0
+RunsIfCalm c rules reply client client_now reach_now end rows = (reach_now.faults ≡ 0) × (client_now.faults ≡ 0)
+    → IsDryRun c rules client.incoming reply reach_now.book.talks client_now.sent end rows
+
 -- ---- what is printed
 
 -- such a session: its three lines, and its rows
@@ -89,20 +93,13 @@ abbrev pub Logs : Config → List Rule → (format : List Part) → (request rep
 Logs c rules format request reply out =
     (lines : List ℕ) × (rows : List Served) × Runs c rules request reply lines rows × (out ≡ log_of format rows)
 
--- the refusal of a map, or what is printed over its rules
-abbrev pub OfRules : (List Rule → (out : List ℕ) → Type 0) → Result (List Rule) LineRefusal → (out : List ℕ) → (refused : Bool) → Type 0
-OfRules of (Err r) out refused = PrintsRefusal (codes "map") r out refused
-OfRules of (Ok rules) out refused = of rules out × (refused ≡ false)
-
 -- `dry` of a client's bytes and a reply's, over a site's two files
 abbrev pub ReportsDry : (request reply workers map out : List ℕ) → (refused : Bool) → Type 0
-ReportsDry request reply workers map out refused =
-    OfWorkers workers (λ c out refused. OfRules (λ rules out. Dries c rules request reply out) (read_text c map) out refused) out refused
+ReportsDry request reply workers map out refused = OfSite workers map (λ c rules out. Dries c rules request reply out) out refused
 
 -- and `log` of them, in this format
 abbrev pub ReportsLog : (format : List Part) → (request reply workers map out : List ℕ) → (refused : Bool) → Type 0
-ReportsLog format request reply workers map out refused =
-    OfWorkers workers (λ c out refused. OfRules (λ rules out. Logs c rules format request reply out) (read_text c map) out refused) out refused
+ReportsLog format request reply workers map out refused = OfSite workers map (λ c rules out. Logs c rules format request reply out) out refused
 
 -- the site where no files are named: one worker that is listed itself, with defaults and retries 1, mounted everywhere
 abbrev pub default_workers : List ℕ

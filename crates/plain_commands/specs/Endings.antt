@@ -1,15 +1,16 @@
 -- How a plain command ends.
-use Rattle.std.specs.Prelude.{◌≡◌, ℕ, true, false, ◌⊎◌, List, [], ◌∷◌, Option}
+use Rattle.std.specs.Prelude.{◌≡◌, ℕ, true, false, ◌⊎◌, List, [], ◌∷◌, Option, None, codes}
 use Rattle.jk_cli.specs.declared.order.Order.{Order}
 use Rattle.jk_io.specs.Told.{appended, PutsFront, Rose}
 use Rattle.jk_io.specs.declared.traits.streams.Meanings.{Ghosts}
 use Rattle.jk_io.specs.declared.traits.surroundings.Files.{Ghosts as FilesGhosts}
 use Rattle.plain_commands.specs.Plain.{is_plain, readings, AnswersOrder, EndsWith, Plain, Prints, PrintsFront, PrintsOf}
 use Rattle.site_reports.specs.Readings.{CommandOutside, File, Reading}
+use Rattle.site_reports.specs.declared.found.SiteFound.{SiteFound}
+use Rattle.plain_commands.specs.declared.answered.PlainAnswer.{PlainAnswer}
 use Rattle.plain_commands.specs.declared.log.LogNames.{LogNames}
 use Rattle.plain_commands.specs.declared.play.Ending.{Ending}
 use Rattle.plain_commands.specs.declared.play.Ending.TheVariants as ending
-use Rattle.plain_commands.specs.declared.play.Output.{Output}
 use Rattle.plain_commands.specs.declared.plain.PlainEnd.{PlainEnd}
 use Rattle.plain_commands.specs.declared.plain.PlainEnd.TheVariants as end
 
@@ -65,48 +66,56 @@ plain_side of_files of_input of_output files input out = record {
   faults = record { files = of_files.faults files; input = of_input.faults input; output = of_output.faults out };
 }
 
--- A command that is built, by each end.
-abbrev pub AnswersSo : (command : Order) → (s n : PlainSide) → PlainEnd → Type 0
-AnswersSo command s n end.Done = Prints command s.outside s.sent n.sent 0
-AnswersSo command s n end.Bad = Prints command s.outside s.sent n.sent 1
-AnswersSo command s n end.NoCommand = ⊥
-AnswersSo command s n end.Refused = Prints command s.outside s.sent n.sent 3
-AnswersSo command s n end.Running = (n.sent ≡ s.sent) × EndsWith command s.outside 4
-AnswersSo command s n end.InputFault = (n.sent ≡ s.sent) × ReadFails s.faults n.faults
-AnswersSo command s n end.OutputFault = PrintsFront command s.outside s.sent n.sent × Rose s.faults.output n.faults.output
-AnswersSo command s n end.NoMemory = (n.sent ≡ s.sent) ⊎ PrintsFront command s.outside s.sent n.sent
+-- A command that is built, by each end, and the site that it judged.
+abbrev pub AnswersSo : (command : Order) → (s n : PlainSide) → Option SiteFound → PlainEnd → Type 0
+AnswersSo command s n site end.Done = Prints command s.outside s.sent n.sent 0 site
+AnswersSo command s n site end.Bad = Prints command s.outside s.sent n.sent 1 site
+AnswersSo command s n site end.NoCommand = ⊥
+AnswersSo command s n site end.Refused = Prints command s.outside s.sent n.sent 3 site
+AnswersSo command s n site end.Running = (n.sent ≡ s.sent) × EndsWith command s.outside 4
+AnswersSo command s n site end.InputFault = (n.sent ≡ s.sent) × ReadFails s.faults n.faults
+AnswersSo command s n site end.OutputFault = PrintsFront command s.outside s.sent n.sent × Rose s.faults.output n.faults.output
+AnswersSo command s n site end.NoMemory = (n.sent ≡ s.sent) ⊎ PrintsFront command s.outside s.sent n.sent
 
 -- An order, by each end.
-abbrev pub EndsSo : (command : Order) → (s n : PlainSide) → PlainEnd → Type 0
-EndsSo command s n end.NoCommand = (is_plain command ≡ false) × (n.sent ≡ s.sent)
-EndsSo command s n ended = (is_plain command ≡ true) × AnswersSo command s n ended
+abbrev pub EndsSo : (command : Order) → (s n : PlainSide) → Option SiteFound → PlainEnd → Type 0
+EndsSo command s n site end.NoCommand = (is_plain command ≡ false) × (n.sent ≡ s.sent)
+EndsSo command s n site ended = (is_plain command ≡ true) × AnswersSo command s n site ended
 
 -- Why a command ends with status 4: a read of the files or of the input failed, or a front that was told to stop may still run.
 abbrev pub IsInputFault : (command : Order) → (s n : PlainSide) → Type 0
 IsInputFault command s n = Rose s.faults.files n.faults.files ⊎ Rose s.faults.input n.faults.input ⊎ EndsWith command s.outside 4
 
--- The output for files alone, whatever the input.
-abbrev pub PrintsOfFiles : Option (List (List ℕ × List ℕ)) → List Reading → (List (List ℕ) → List ℕ → ℕ → Type 0) → Output → Type 0
-PrintsOfFiles files readings Of o =
-    (incoming : Option (List ℕ)) → PrintsOf (record { files = files; incoming = incoming }) readings Of o.text (status_of o.ending)
+-- ---- what is answered, before it is written
 
--- The output for the input alone, whatever the files.
-abbrev pub PrintsOfInput : Option (List ℕ) → List Reading → (List (List ℕ) → List ℕ → ℕ → Type 0) → Output → Type 0
-PrintsOfInput incoming readings Of o =
-    (files : Option (List (List ℕ × List ℕ))) → PrintsOf (record { files = files; incoming = incoming }) readings Of o.text (status_of o.ending)
+-- `So` holds of what is printed, of the status, and of the site that was judged.
+abbrev pub OfAnswer : (So : List ℕ → ℕ → Option SiteFound → Type 0) → PlainAnswer → Type 0
+OfAnswer So a = So a.output.text (status_of a.output.ending) a.site
 
--- The output of a command that reads files alone, and of one that reads the input alone.
-abbrev pub PlainOfFiles : Option (List (List ℕ × List ℕ)) → Order → Output → Type 0
-PlainOfFiles files command o = PrintsOfFiles files (readings command) (AnswersOrder command) o
+-- A text is too long: that alone is printed, and no site is judged.
+abbrev pub IsTooLong : PlainAnswer → Type 0
+IsTooLong a = (a.output.text ≡ codes "too long\n") × (a.output.ending ≡ ending.Refused) × (a.site ≡ None)
 
-abbrev pub PlainOfInput : Option (List ℕ) → Order → Output → Type 0
-PlainOfInput incoming command o = PrintsOfInput incoming (readings command) (AnswersOrder command) o
+-- The answer for files alone, whatever the input.
+abbrev pub PrintsOfFiles : Option (List (List ℕ × List ℕ)) → List Reading → (List (List ℕ) → List ℕ → ℕ → Option SiteFound → Type 0) → PlainAnswer → Type 0
+PrintsOfFiles files readings Of a = (incoming : Option (List ℕ)) → OfAnswer (PrintsOf (record { files = files; incoming = incoming }) readings Of) a
+
+-- The answer for the input alone, whatever the files.
+abbrev pub PrintsOfInput : Option (List ℕ) → List Reading → (List (List ℕ) → List ℕ → ℕ → Option SiteFound → Type 0) → PlainAnswer → Type 0
+PrintsOfInput incoming readings Of a =
+    (files : Option (List (List ℕ × List ℕ))) → OfAnswer (PrintsOf (record { files = files; incoming = incoming }) readings Of) a
+
+-- The answer of a command that reads files alone, and of one that reads the input alone.
+abbrev pub PlainOfFiles : Option (List (List ℕ × List ℕ)) → Order → PlainAnswer → Type 0
+PlainOfFiles files command a = PrintsOfFiles files (readings command) (AnswersOrder command) a
+
+abbrev pub PlainOfInput : Option (List ℕ) → Order → PlainAnswer → Type 0
+PlainOfInput incoming command a = PrintsOfInput incoming (readings command) (AnswersOrder command) a
 
 -- the files of `log`, in the order in which they are read
 abbrev pub log_readings : LogNames → List Reading
 log_readings names = File names.request.now ∷ File names.reply.now ∷ File names.workers.now ∷ File names.map.now ∷ []
 
--- The output of `log`, whatever the input.
-abbrev pub LogOfFiles : Option (List (List ℕ × List ℕ)) → Order → Output → Type 0
-LogOfFiles files command o =
-    (incoming : Option (List ℕ)) → Plain (record { files = files; incoming = incoming }) command o.text (status_of o.ending)
+-- The answer of `log`, whatever the input.
+abbrev pub LogOfFiles : Option (List (List ℕ × List ℕ)) → Order → PlainAnswer → Type 0
+LogOfFiles files command a = (incoming : Option (List ℕ)) → OfAnswer (Plain (record { files = files; incoming = incoming }) command) a

@@ -2,25 +2,25 @@
 ghost use Rattle.std.specs.Prelude.{[], ◌∷◌, IfOk, IsErrOf};
 ghost use Rattle.jk_cli.specs.declared.order.Order.TheVariants as order;
 ghost use Rattle.plain_commands.specs.Causes.{IsCaused};
-ghost use Rattle.plain_commands.specs.Dry.{ReportsDry, default_map, default_workers};
-ghost use Rattle.plain_commands.specs.Endings.{PlainOfFiles, PrintsOfFiles, status_of};
-ghost use Rattle.plain_commands.specs.Plain.{DryOver, Reported};
+ghost use Rattle.plain_commands.specs.Endings.{OfAnswer, PlainOfFiles, PrintsOfFiles};
+ghost use Rattle.plain_commands.specs.Plain.{DryOver, DryAlone};
 ghost use Rattle.plain_commands.specs.Printed.{PrintsSession};
 ghost use Rattle.site_reports.specs.Readings.{File};
 
-use crate::commands::{printed, too_long};
-use crate::play::Output;
+use crate::answered::{PlainAnswer, printed, too_long};
 use crate::session::report::{DEFAULT_MAP, DEFAULT_WORKERS, Wire, report_dry};
 use crate::texts::read_pair;
 use jk_io::{Bytes, Files, IoError};
 use std::alloc::Global;
 
 // The session of two texts, over the site of no files.
-fn dry_alone(alloc: Global, wire: Wire<'_>) -> Result<Output, IoError>
-    ensures ok { IfOk result (λ o. Reported (ReportsDry wire.entry.request.now wire.entry.reply.now default_workers default_map) o.text (status_of o.ending)) }
+fn dry_alone(alloc: Global, wire: Wire<'_>) -> Result<PlainAnswer, IoError>
+    ensures ok { IfOk result (OfAnswer (DryAlone wire.entry.request.now wire.entry.reply.now)) }
     ensures failed { IsErrOf result IoError.Failed → ⊥ }
 {
-    printed(report_dry(alloc, DEFAULT_WORKERS, DEFAULT_MAP, wire))
+    let workers = Bytes::from_slice(alloc, DEFAULT_WORKERS)?;
+    let map = Bytes::from_slice(alloc, DEFAULT_MAP)?;
+    printed(report_dry(alloc, workers, map, wire))
 }
 
 // The session of two texts, over the site of two files.
@@ -30,19 +30,14 @@ fn dry_site<F: Files>(
     wire: Wire<'_>,
     workers: &Bytes,
     map: &Bytes,
-) -> Result<Output, IoError>
+) -> Result<PlainAnswer, IoError>
     ensures ok { IfOk result (λ o. PrintsOfFiles (F.files files.old) (File workers.now ∷ File map.now ∷ [])
         (DryOver wire.entry.request.now wire.entry.reply.now) o) }
     ensures cause { IsCaused (F.faults files.old) (F.faults files.new) result }
 {
     match read_pair(alloc, files, workers, map)? {
         None => too_long(alloc),
-        Some((workers, map)) => printed(report_dry(
-            alloc,
-            workers.as_slice(),
-            map.as_slice(),
-            wire,
-        )),
+        Some((workers, map)) => printed(report_dry(alloc, workers, map, wire)),
     }
 }
 
@@ -52,7 +47,7 @@ fn dry_over<F: Files>(
     files: &mut F,
     wire: Wire<'_>,
     site: &Option<(Bytes, Bytes)>,
-) -> Result<Output, IoError>
+) -> Result<PlainAnswer, IoError>
     ensures ok { IfOk result (PrintsSession (F.files files.old) wire.entry.request.now wire.entry.reply.now site.now) }
     ensures cause { IsCaused (F.faults files.old) (F.faults files.new) result }
 {
@@ -69,7 +64,7 @@ pub(crate) fn dry<F: Files>(
     request: &Bytes,
     reply: &Bytes,
     site: &Option<(Bytes, Bytes)>,
-) -> Result<Output, IoError>
+) -> Result<PlainAnswer, IoError>
     ensures ok { IfOk result (λ o. PlainOfFiles (F.files files.old) (order.Dry request.now reply.now site.now) o) }
     ensures cause { IsCaused (F.faults files.old) (F.faults files.new) result }
 {

@@ -8,9 +8,10 @@
 //! Shapes: talks are listed newest first where a definition tells over which links they were done.
 //! Contract: `run_plain`, a clause for each status. Read first: specs/Plain.antt, then site_reports' specs/Readings.antt; of
 //! `dry` and `log` specs/Dry.antt, then specs/DryLines.antt and specs/DryLinks.antt; of `follow` specs/FollowedTexts.antt.
-//! Errors: the statuses 1 to 6, each with its cause.
+//! Errors: the ends of `PlainEnd`, whose statuses are 1 to 6, each with its cause.
 #![tactic(auto)]
 
+mod answered;
 mod answers;
 mod check;
 mod commands;
@@ -24,4 +25,4 @@ mod texts;
 mod turn;
 
 pub use answers::{USAGE, asked_text};
-pub use plain::run_plain;
+pub use plain::{PlainEnd, PlainRun, run_plain};

@@ -1,5 +1,5 @@
 //! `log`: the log of one session over what its files say.
-ghost use Rattle.std.specs.Prelude.{◌≡◌, ◌⊎◌, List, [], ◌∷◌, IfOk, IsErrOf};
+ghost use Rattle.std.specs.Prelude.{◌≡◌, ◌⊎◌, List, [], ◌∷◌, IfOk, IsErrOf, None};
 ghost use Rattle.jk_cli.specs.declared.order.Order.TheVariants as order;
 ghost use Rattle.plain_commands.specs.Causes.{IsCaused};
 ghost use Rattle.plain_commands.specs.Endings.{LogOfFiles, PrintsOfFiles, log_readings, status_of};
@@ -8,7 +8,7 @@ ghost use Rattle.request_log.specs.Formats.{IsFormat, refusal_line as line_of_re
 ghost use Rattle.request_log.specs.declared.format.Part.{Part as AnyPart};
 ghost use Rattle.site_reports.specs.Readings.{File};
 
-use crate::commands::{printed, too_long};
+use crate::answered::{PlainAnswer, alone, printed, too_long};
 use crate::play::{Ending, Output};
 use crate::session::log_report::report_log;
 use crate::session::report::Wire;
@@ -33,20 +33,14 @@ fn log_site<F: Files>(
     format: &Format,
     wire: Wire<'_>,
     names: &LogNames<'_>,
-) -> Result<Output, IoError>
+) -> Result<PlainAnswer, IoError>
     ensures ok { IfOk result (λ o. PrintsOfFiles (F.files files.old) (File names.now.workers.now ∷ File names.now.map.now ∷ [])
         (LogOver format.now wire.entry.request.now wire.entry.reply.now) o) }
     ensures cause { IsCaused (F.faults files.old) (F.faults files.new) result }
 {
     match read_pair(alloc, files, names.workers, names.map)? {
         None => too_long(alloc),
-        Some((workers, map)) => printed(report_log(
-            alloc,
-            workers.as_slice(),
-            map.as_slice(),
-            wire,
-            format,
-        )),
+        Some((workers, map)) => printed(report_log(alloc, workers, map, wire, format)),
     }
 }
 
@@ -56,7 +50,7 @@ fn log_over<F: Files>(
     files: &mut F,
     format: &Format,
     names: &LogNames<'_>,
-) -> Result<Output, IoError>
+) -> Result<PlainAnswer, IoError>
     ensures ok { IfOk result (λ o. PrintsOfFiles (F.files files.old) (log_readings names.now) (LogOf format.now) o) }
     ensures cause { IsCaused (F.faults files.old) (F.faults files.new) result }
 {
@@ -73,14 +67,14 @@ fn log_over<F: Files>(
 }
 
 // A format is refused at this place.
-fn format_refused(alloc: Global, at: u64) -> Result<Output, IoError>
-    ensures ok { IfOk result (λ o. (o.text ≡ line_of_refusal at) × (status_of o.ending ≡ 3)) }
+fn format_refused(alloc: Global, at: u64) -> Result<PlainAnswer, IoError>
+    ensures ok { IfOk result (λ a. (a.output.text ≡ line_of_refusal at) × (status_of a.output.ending ≡ 3) × (a.site ≡ None)) }
     ensures failed { IsErrOf result IoError.Failed → ⊥ }
 {
-    Ok(Output {
+    Ok(alone(Output {
         text: refusal_line(alloc, at)?,
         ending: Ending::Refused,
-    })
+    }))
 }
 
 /// `log`
@@ -89,7 +83,7 @@ pub(crate) fn log<F: Files>(
     files: &mut F,
     format: &Bytes,
     names: &LogNames<'_>,
-) -> Result<Output, IoError>
+) -> Result<PlainAnswer, IoError>
     ensures ok { IfOk result (λ o. LogOfFiles (F.files files.old)
         (order.Log format.now names.now.request.now names.now.reply.now names.now.workers.now names.now.map.now) o) }
     ensures cause { IsCaused (F.faults files.old) (F.faults files.new) result }

@@ -1,6 +1,5 @@
 pub mod AddedLemmas
 pub mod AgainLemmas
-pub mod EffectLemmas
 pub mod GivenLemmas
 pub mod KindLemmas
 pub mod NoticeLemmas

@@ -1,5 +1,6 @@
 //! Remarks on a command that ended, by its status.
 ghost use Rattle.std.specs.Prelude.{◌≡◌, ◌≢◌, [], IfOk, IsOk, None, Some, true};
+ghost use Rattle.std.specs.Option.{option_copied};
 ghost use Rattle.jk_io.specs.Told.{HasCause};
 ghost use Rattle.remarks.specs.Added.{Adds, AddsSaid, AddsSome, AddsText};
 ghost use Rattle.remarks.specs.Told.{IsLine, SaysEffects, SaysRefused, fault_of, fault_text, too_long_text, unread_name, unread_text};
@@ -12,9 +13,10 @@ use crate::site::{put_effects, put_placed, site_place};
 use crate::words::said_of_words;
 use jk_cli::CommandName;
 use jk_io::{Bytes, IoError, MAX_INPUT_BYTES, NoMemory, Sink};
+use site_reports::SiteFound;
 use std::alloc::Global;
 
-/// A command that ended: its status, and what it read.
+/// A command that ended: its status, what it read, and what it found.
 #[derive(Clone, Copy)]
 pub struct Ended<'e> {
     /// None where the words are no command.
@@ -22,9 +24,11 @@ pub struct Ended<'e> {
     /// The words as they were given, of which it is said what is wrong where they are no command.
     pub words: &'e [Bytes],
     pub status: u8,
-    /// What each read of a file gave, in order.
+    /// How each read of a file went, in order.
     pub reads: &'e [ReadFile],
     pub input: InputSeen,
+    /// What it found of the files of a site, where it judged some.
+    pub site: Option<&'e SiteFound>,
     /// The system's reason, where a file can't be read.
     pub reason: &'e [u8],
 }
@@ -54,19 +58,23 @@ fn put_long<O: Sink + Drop>(
 fn put_refusal<O: Sink + Drop>(
     alloc: Global,
     out: &mut RemarkOut<O>,
-    command: Option<CommandName>,
-    reads: &[ReadFile],
-    input: InputSeen,
+    ended: &Ended<'_>,
 ) -> Result<(), IoError>
-    ensures { AddsSome result out.old out.new (SaysRefused command reads.now input) }
+    ensures { AddsSome result out.old out.new (SaysRefused ended.now) }
 {
-    if let Some(name) = long_file(reads) {
+    if let Some(name) = long_file(ended.reads) {
         return put_long(alloc, out, name);
     }
-    if (MAX_INPUT_BYTES as u64) < input.bytes {
+    if (MAX_INPUT_BYTES as u64) < ended.input.bytes {
         return put_long(alloc, out, b"standard input");
     }
-    put_placed(alloc, out, reads, site_place(command))
+    put_placed(
+        alloc,
+        out,
+        ended.reads,
+        ended.site,
+        site_place(ended.command),
+    )
 }
 
 /// What failed: a front that was asked to end answered otherwise, or a file can't be read.
@@ -157,10 +165,10 @@ pub fn remarks_on<O: Sink + Drop>(
     ended: &Ended<'_>,
 ) -> Result<(), IoError>
     ensures effects { ended.now.status ≡ 0
-        → AddsSaid result out.old.said out.new.said (SaysEffects ended.now.command ended.now.reads.now) }
+        → AddsSaid result out.old.said out.new.said (SaysEffects ended.now.command (option_copied ended.now.site) ended.now.reads.now) }
     ensures words { ended.now.status ≡ 2 → AddsSaid result out.old.said out.new.said IsLine }
     ensures refused { ended.now.status ≡ 3
-        → AddsSaid result out.old.said out.new.said (SaysRefused ended.now.command ended.now.reads.now ended.now.input) }
+        → AddsSaid result out.old.said out.new.said (SaysRefused ended.now) }
     ensures failed { ended.now.status ≡ 4
         → AddsText result out.old.said out.new.said (fault_of ended.now) }
 
@@ -171,9 +179,9 @@ pub fn remarks_on<O: Sink + Drop>(
     ensures steady { IsOk result → out.new.faults ≡ out.old.faults }
 {
     match ended.status {
-        0 => put_effects(alloc, out, ended.command, ended.reads),
+        0 => put_effects(alloc, out, ended.command, ended.reads, ended.site),
         2 => put_words(alloc, out, ended.words),
-        3 => put_refusal(alloc, out, ended.command, ended.reads, ended.input),
+        3 => put_refusal(alloc, out, ended),
         4 => put_fault(alloc, out, ended),
         _ => Ok(()),
     }

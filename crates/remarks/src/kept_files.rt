@@ -1,15 +1,15 @@
-//! Files that keep what was read of them.
-ghost use Rattle.std.specs.Prelude.{◌≡◌, ◌<◌, ◌≤◌, [], List, IfOk, IfSome, IsErrOf, IsOk, IsSomeAnd, length, OnErr, OnOk, Some};
+//! Files that keep the names of those that were read, and how each read went.
+ghost use Rattle.std.specs.Prelude.{◌≡◌, ◌<◌, ◌≤◌, [], List, IfOk, IfSome, IsErrOf, IsSomeAnd, length, OnErr, OnOk, Some};
 ghost use Rattle.jk_io.specs.Stored.{content_of};
 ghost use Rattle.jk_io.specs.Told.{Rose};
-ghost use Rattle.remarks.specs.Seen.{HasPlace, Keeps, KeepsAnswer, is_long, text_given};
+ghost use Rattle.remarks.specs.Seen.{HasPlace, Keeps, KeepsAnswer, outcome_of};
 ghost use Rattle.jk_io.specs.declared.whole_input.TheConstants.{MAX_INPUT_BYTES};
 
-use crate::read_file::ReadFile;
+use crate::read_file::{ReadFile, ReadOutcome};
 use jk_io::{Bytes, FileError, Files, ListOf, NoMemory};
 use std::alloc::Global;
 
-/// Files, and what each read of them gave, in order.
+/// Files, and how each read of them went, in order.
 #[derive(Drop)]
 pub struct KeptFiles<F: Files + Drop> {
     files: F,
@@ -26,7 +26,7 @@ impl<F: Files + Drop> KeptFiles<F> {
         }
     }
 
-    /// What each read gave, the first one first.
+    /// How each read went, the first one first.
     pub fn reads(&self) -> &[ReadFile]
         ensures { result.now ≡ self.now.reads }
     {
@@ -34,26 +34,18 @@ impl<F: Files + Drop> KeptFiles<F> {
     }
 }
 
-fn copied(alloc: Global, answer: &Result<Bytes, FileError>) -> Result<Option<Bytes>, NoMemory>
-    requires { IfOk answer.now (λ t. length t ≤ MAX_INPUT_BYTES) }
-    ensures short { IfOk result (λ o. IfSome o (λ t. length t ≤ MAX_INPUT_BYTES)) }
-    ensures text { IfOk result (λ o. o ≡ text_given answer.now) }
-    ensures wanted { OnErr result (IsOk answer.now) }
+/// How a read went that gave this.
+fn outcome_of(answer: &Result<Bytes, FileError>) -> ReadOutcome
+    ensures { result ≡ outcome_of answer.now }
 {
     match answer {
-        Ok(text) => Ok(Some(Bytes::from_slice(alloc, text.as_slice())?)),
-        Err(_) => Ok(None),
+        Ok(_) => ReadOutcome::Whole,
+        Err(FileError::TooLong) => ReadOutcome::TooLong,
+        Err(FileError::Failed | FileError::NoMemory) => ReadOutcome::Unread,
     }
 }
 
-/// Whether the file is too long.
-fn is_too_long(answer: &Result<Bytes, FileError>) -> bool
-    ensures { result ≡ is_long answer.now }
-{
-    matches!(answer, Err(FileError::TooLong))
-}
-
-/// Takes the room for what the read of a file gives, and a copy of its name.
+/// Takes the room for how the read of a file goes, and a copy of its name.
 fn make_room(alloc: Global, reads: &mut ListOf<ReadFile>, name: &Bytes) -> Result<Bytes, NoMemory>
     ensures name { IfOk result (λ copy. copy ≡ name.now) }
     ensures room { OnOk result (HasPlace reads.old reads.new) }
@@ -62,42 +54,18 @@ fn make_room(alloc: Global, reads: &mut ListOf<ReadFile>, name: &Bytes) -> Resul
     let copy = Bytes::from_slice(alloc, name.as_slice())?;
     reads.push(ReadFile {
         name: Bytes::new(alloc),
-        text: None,
-        too_long: false,
+        outcome: ReadOutcome::Unread,
     })?;
     Ok(copy)
 }
 
-/// Puts what a read gave where the room for it was taken, or gives the room back.
-fn keep(
-    alloc: Global,
-    reads: &mut ListOf<ReadFile>,
-    name: Bytes,
-    answer: &Result<Bytes, FileError>,
-) -> Result<(), NoMemory>
-    requires short { IfOk answer.now (λ t. length t ≤ MAX_INPUT_BYTES) }
+/// Puts how a read went where the room for it was taken.
+fn keep(reads: &mut ListOf<ReadFile>, name: Bytes, outcome: ReadOutcome)
     requires room { 0 < length reads.old }
-    ensures kept { (front : List ReadFile) → HasPlace front reads.old → OnOk result (Keeps name answer.now front reads.new) }
-    ensures err { (front : List ReadFile) → HasPlace front reads.old → OnErr result (reads.new ≡ front) }
-
-    // Memory is wanted for a text alone.
-    ensures wanted { OnErr result (IsOk answer.now) }
+    ensures { (front : List ReadFile) → HasPlace front reads.old → Keeps name outcome front reads.new }
 {
-    let too_long = is_too_long(answer);
-    let Ok(text) = copied(alloc, answer) else {
-        reads.pop();
-        return Err(NoMemory);
-    };
     let last = reads.len() - 1;
-    reads.set(
-        last,
-        ReadFile {
-            name,
-            text,
-            too_long,
-        },
-    );
-    Ok(())
+    reads.set(last, ReadFile { name, outcome });
 }
 
 impl<F: Files + Drop> Files for KeptFiles<F> {
@@ -115,14 +83,12 @@ impl<F: Files + Drop> Files for KeptFiles<F> {
         ensures calm { (IsErrOf result FileError.Failed → ⊥) → F.faults self.new.files ≡ F.faults self.old.files }
         ensures same { F.files self.new.files ≡ F.files self.old.files }
 
-        // What a read gives is kept after what those before gave, unless memory was wanted for that.
+        // How a read goes is kept after how those before went, unless memory was wanted for that.
         ensures kept { KeepsAnswer name.now result self.old.reads self.new.reads }
     {
         let copy = make_room(alloc, &mut self.reads, name)?;
         let answer = self.files.read_file(alloc, name);
-        match keep(alloc, &mut self.reads, copy, &answer) {
-            Ok(()) => answer,
-            Err(NoMemory) => Err(FileError::NoMemory),
-        }
+        keep(&mut self.reads, copy, outcome_of(&answer));
+        answer
     }
 }

@@ -3,7 +3,7 @@ ghost use Rattle.std.specs.Prelude.{◌≡◌};
 ghost use Rattle.std.specs.Option.{option_map};
 ghost use Rattle.remarks.specs.Told.{long_name, unended_name, unread_name};
 
-use crate::read_file::ReadFile;
+use crate::read_file::{ReadFile, ReadOutcome};
 use jk_cli::CommandName;
 
 /// The file whose read failed, if the last one did.
@@ -11,10 +11,9 @@ pub fn unread_file(reads: &[ReadFile]) -> Option<&[u8]>
     ensures { option_map (λ t. t.now) result ≡ unread_name reads.now }
 {
     let last = reads.last()?;
-    if last.text.is_none() && !last.too_long {
-        Some(last.name.as_slice())
-    } else {
-        None
+    match last.outcome {
+        ReadOutcome::Unread => Some(last.name.as_slice()),
+        ReadOutcome::Whole | ReadOutcome::TooLong => None,
     }
 }
 
@@ -26,10 +25,9 @@ pub(crate) fn unended_file(command: Option<CommandName>, reads: &[ReadFile]) -> 
         return None;
     }
     let last = reads.last()?;
-    if last.text.is_some() {
-        Some(last.name.as_slice())
-    } else {
-        None
+    match last.outcome {
+        ReadOutcome::Whole => Some(last.name.as_slice()),
+        ReadOutcome::TooLong | ReadOutcome::Unread => None,
     }
 }
 
@@ -38,9 +36,8 @@ pub(crate) fn long_file(reads: &[ReadFile]) -> Option<&[u8]>
     ensures { option_map (λ t. t.now) result ≡ long_name reads.now }
 {
     let last = reads.last()?;
-    if last.too_long {
-        Some(last.name.as_slice())
-    } else {
-        None
+    match last.outcome {
+        ReadOutcome::TooLong => Some(last.name.as_slice()),
+        ReadOutcome::Whole | ReadOutcome::Unread => None,
     }
 }

@@ -4,10 +4,11 @@
 //! Source: own rules (docs/FORMATS.md, "What a person is told"); which directives have an effect in mod_jk: its reference,
 //! "workers.properties" and "uriworkermap.properties".
 //! Shapes: `KeptFiles` and `CountedInput` go round the files and the input of a command, and `remarks_on` is called once it
-//! ended. Nothing here changes what the command reads, writes or answers.
+//! ended, with what the command itself found of a site's files: these are judged there, and not here. Nothing here changes what
+//! the command reads, writes or answers.
 //! Contract: `site_remarks`. Read first: specs/Remarks.antt, then specs/Refused.antt, Explained.antt, Notices.antt, MapNotices.antt.
 //! `remarks_on`, a clause for each status, and `cause`; `effects_on`, what of accepted files has no effect; `KeptFiles` and
-//! `CountedInput` are read as what they go round, and keep what a read gave (clauses `kept` and `seen`): specs/Told.antt, then
+//! `CountedInput` are read as what they go round, and keep how a read went (clauses `kept` and `seen`): specs/Told.antt, then
 //! specs/Seen.antt.
 //! Errors: a write that failed, only where the sink's count of faults rose, and want of memory.
 #![tactic(auto)]
@@ -42,8 +43,8 @@ pub use ended::{Ended, remarks_on};
 pub use input_seen::InputSeen;
 pub use kept_files::KeptFiles;
 pub use last_read::unread_file;
-pub use read_file::ReadFile;
+pub use read_file::{ReadFile, ReadOutcome};
 pub use remark_out::RemarkOut;
 pub use remarks::site_remarks;
-pub use site::effects_on;
-pub use site_file::{SiteFile, SiteFiles};
+pub use site_effects::effects_on;
+pub use site_file::SiteNames;

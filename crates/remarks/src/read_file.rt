@@ -1,16 +1,19 @@
-//! A file that was read, as it is kept for the remarks.
-ghost use Rattle.std.specs.Prelude.{◌≤◌, length};
-ghost use Rattle.std.specs.Option.{ForSome};
-ghost use Rattle.jk_io.specs.declared.whole_input.TheConstants.{MAX_INPUT_BYTES};
+//! The read of a file, as it is noted for the remarks.
 
 use jk_io::Bytes;
 
-/// What the read of a file gave.
+/// How the read of a file went.
+#[derive(Clone, Copy)]
+pub enum ReadOutcome {
+    Whole,
+    TooLong,
+    /// It can't be read, or memory was wanted.
+    Unread,
+}
+
+/// A file, and how its read went.
 #[derive(Drop)]
 pub struct ReadFile {
     pub name: Bytes,
-    /// None where the file can't be read, or is too long.
-    pub text: Option<Bytes>,
-    pub too_long: bool,
-    pub ghost short: { ForSome text (λ t. length t ≤ MAX_INPUT_BYTES) },
+    pub outcome: ReadOutcome,
 }

@@ -1,27 +1,26 @@
 //! Remarks on a site's files: why they are refused, and what of those that are accepted has no effect.
-ghost use Rattle.std.specs.Prelude.{IfSome};
-ghost use Rattle.std.specs.Option.{option_map};
-ghost use Rattle.site_mounts.specs.Lines.{read_text};
+ghost use Rattle.site_reports.specs.Found.{workers_refusal};
+ghost use Rattle.site_reports.specs.declared.found.SiteFound.TheVariants as found;
 ghost use Rattle.remarks.specs.Explained.{explained_workers};
 ghost use Rattle.remarks.specs.KindTables.{IsKindTable};
 ghost use Rattle.remarks.specs.Notices.{kinds_of, notices, site_kinds};
 ghost use Rattle.remarks.specs.Added.{Adds, AddsFor, AddsSome};
 ghost use Rattle.remarks.specs.Again.{ReadsProperties};
 ghost use Rattle.remarks.specs.Refused.{refused_lines, wrong_rule};
-ghost use Rattle.remarks.specs.Remarks.{AreRemarks, AreShort, IsShortFile, as_file, map_remarks, maps_of, rules_remarks, site_remarks, workers_refusals, workers_remarks};
+ghost use Rattle.remarks.specs.Remarks.{AreRemarks, IsShortFile, as_file, remarks_of, workers_refusals, workers_remarks};
 
 use crate::again::line_table;
 use crate::explain::explain_workers;
 use crate::kinds::{KindTable, kind_table, redirect_table};
-use crate::map_effects::put_map_effects;
 use crate::notices::{LineTables, put_notices};
 use crate::refused::{Judge, put_refused};
 use crate::remark_out::RemarkOut;
-use crate::site_file::{SiteFile, SiteFiles};
+use crate::site_effects::put_site_effects;
+use crate::site_file::{SiteFile, SiteNames};
 use jk_io::{Bytes, IoError, Sink};
-use site_config::{Config, PropsError};
-use site_mounts::{MapError, Workers, read_map};
-use site_workers::read_workers;
+use site_config::Config;
+use site_mounts::Workers;
+use site_reports::{AcceptedSite, AcceptedWorkers, RefusedMap, RefusedWorkers, SiteFound};
 use std::alloc::Global;
 
 /// Adds each line of a map that is refused.
@@ -76,52 +75,6 @@ fn put_workers_refusals<O: Sink + Drop>(
     }
 }
 
-/// Adds what is said of a map.
-fn put_map<O: Sink + Drop>(
-    alloc: Global,
-    out: &mut RemarkOut<O>,
-    config: &Config,
-    table: &KindTable<'_>,
-    map: &SiteFile<'_>,
-    effects: bool,
-) -> Result<(), IoError>
-    requires short { IsShortFile map.now }
-    requires table { IsKindTable table.now (kinds_of config.now) }
-    ensures { Adds result out.old out.new
-        (rules_remarks effects config.now (as_file map.now) (read_text config.now map.now.text.now)) }
-{
-    match read_map(alloc, map.text, config) {
-        Ok(rules) => {
-            if effects {
-                put_map_effects(alloc, out, table, map, &rules)
-            } else {
-                Ok(())
-            }
-        }
-        Err(MapError::Refused { .. }) => put_map_refusals(alloc, out, config, map),
-        Err(MapError::NoMemory) => Err(IoError::NoMemory),
-    }
-}
-
-/// Adds what is said of a map, where there is one.
-fn put_any_map<O: Sink + Drop>(
-    alloc: Global,
-    out: &mut RemarkOut<O>,
-    config: &Config,
-    table: &KindTable<'_>,
-    map: Option<SiteFile<'_>>,
-    effects: bool,
-) -> Result<(), IoError>
-    requires short { IfSome map IsShortFile }
-    requires table { IsKindTable table.now (kinds_of config.now) }
-    ensures { Adds result out.old out.new (map_remarks effects config.now (option_map as_file map.entry)) }
-{
-    match map {
-        None => Ok(()),
-        Some(map) => put_map(alloc, out, config, table, &map, effects),
-    }
-}
-
 /// Adds what in a workers.properties has no effect.
 pub(crate) fn put_effects<O: Sink + Drop>(
     alloc: Global,
@@ -148,56 +101,97 @@ pub(crate) fn put_effects<O: Sink + Drop>(
 fn put_workers<O: Sink + Drop>(
     alloc: Global,
     out: &mut RemarkOut<O>,
-    config: &Config,
-    table: &KindTable<'_>,
-    workers: &SiteFile<'_>,
+    name: &[u8],
+    workers: &AcceptedWorkers,
     effects: bool,
 ) -> Result<(), IoError>
-    requires short { IsShortFile workers.now }
-    requires table { IsKindTable table.now (kinds_of config.now) }
-    ensures { AddsFor result out.old out.new (ReadsProperties workers.now.text.now)
-        (workers_remarks effects workers.now.name.now config.now) }
+    ensures { AddsFor result out.old out.new (ReadsProperties workers.now.text) (workers_remarks effects name.now workers.now.config) }
+{
+    if !effects {
+        return Ok(());
+    }
+    let table = kind_table(alloc, &workers.config)?;
+    let file = SiteFile {
+        name,
+        text: workers.text.as_slice(),
+    };
+    put_effects(alloc, out, &workers.config, &table, &file)
+}
+
+/// Adds what is said of an accepted workers.properties, and each line of the map that is refused.
+fn put_refused_map<O: Sink + Drop>(
+    alloc: Global,
+    out: &mut RemarkOut<O>,
+    names: &SiteNames<'_>,
+    refused: &RefusedMap,
+    effects: bool,
+) -> Result<(), IoError>
+    ensures { AddsFor result out.old out.new (ReadsProperties refused.now.workers.text)
+        (remarks_of effects names.now.workers.now names.now.map.now (found.MapRefused refused.now)) }
+{
+    put_workers(alloc, out, names.workers, &refused.workers, effects)?;
+    let file = SiteFile {
+        name: names.map,
+        text: refused.text.as_slice(),
+    };
+    put_map_refusals(alloc, out, &refused.workers.config, &file)
+}
+
+/// Adds what is said of files that are accepted.
+fn put_accepted<O: Sink + Drop>(
+    alloc: Global,
+    out: &mut RemarkOut<O>,
+    names: &SiteNames<'_>,
+    site: &AcceptedSite,
+    effects: bool,
+) -> Result<(), IoError>
+    ensures { AddsFor result out.old out.new (ReadsProperties site.now.workers.text)
+        (remarks_of effects names.now.workers.now names.now.map.now (found.Site site.now)) }
 {
     if effects {
-        put_effects(alloc, out, config, table, workers)
+        put_site_effects(alloc, out, names, site)
     } else {
         Ok(())
     }
 }
 
-/// Adds what is said of files whose workers.properties gives this configuration.
-fn put_accepted<O: Sink + Drop>(
+/// Adds what is said of a workers.properties that is refused.
+fn put_refused_workers<O: Sink + Drop>(
     alloc: Global,
     out: &mut RemarkOut<O>,
-    config: &Config,
-    files: &SiteFiles<'_>,
-    effects: bool,
+    name: &[u8],
+    refused: &RefusedWorkers,
 ) -> Result<(), IoError>
-    requires short { AreShort files.now }
-    ensures { AddsFor result out.old out.new (ReadsProperties files.now.workers.text.now) (site_remarks effects files.now config.now) }
+    ensures { Adds result out.old out.new (workers_refusals (name.now, refused.now.text) (workers_refusal refused.now)) }
 {
-    let table = kind_table(alloc, config)?;
-    put_workers(alloc, out, config, &table, &files.workers, effects)?;
-    put_any_map(alloc, out, config, &table, files.map, effects)
+    let file = SiteFile {
+        name,
+        text: refused.text.as_slice(),
+    };
+    put_workers_refusals(alloc, out, &file, refused.line, refused.code)
 }
 
-/// Adds what a person is told of a site's files: of the first that is refused each line that is refused, and, where `effects`
-/// is on, what in accepted ones a site of mod_jk would expect to have effect and hasn't, and that a map has no rule. It is
-/// written as it is found, and not held.
+/// Adds what a person is told of a site's files, which a command judged: of the first that is refused each line that is
+/// refused, and, where `effects` is on, what in accepted ones a site of mod_jk would expect to have effect and hasn't, and that
+/// a map has no rule. It is written as it is found, and not held.
 pub fn site_remarks<O: Sink + Drop>(
     alloc: Global,
     out: &mut RemarkOut<O>,
-    files: &SiteFiles<'_>,
+    names: &SiteNames<'_>,
+    found: &SiteFound,
     effects: bool,
 ) -> Result<(), IoError>
-    requires short { AreShort files.now }
-    ensures { AddsSome result out.old out.new (AreRemarks effects (as_file files.now.workers) (maps_of files.now)) }
+    ensures { AddsSome result out.old out.new (AreRemarks effects names.now.workers.now names.now.map.now found.now) }
 {
-    match read_workers(alloc, files.workers.text) {
-        Ok(config) => put_accepted(alloc, out, &config, files, effects),
-        Err(PropsError::Refused { line, code }) => {
-            put_workers_refusals(alloc, out, &files.workers, line, code)
-        }
-        Err(PropsError::NoMemory) => Err(IoError::NoMemory),
+    match found {
+        SiteFound::Workers(workers) => put_workers(alloc, out, names.workers, workers, effects),
+        SiteFound::Site(site) => put_accepted(alloc, out, names, site, effects),
+        SiteFound::WorkersRefused(refused) => put_refused_workers(
+            alloc,
+            out,
+            names.workers,
+            refused,
+        ),
+        SiteFound::MapRefused(refused) => put_refused_map(alloc, out, names, refused, effects),
     }
 }

@@ -1,19 +1,19 @@
 //! Remarks on the lines of a site's two files that have no effect, where both are accepted.
-ghost use Rattle.std.specs.Prelude.{Ok};
-ghost use Rattle.site_mounts.specs.Lines.{read_text};
+ghost use Rattle.std.specs.Prelude.{true};
+ghost use Rattle.site_reports.specs.declared.found.SiteFound.TheVariants as found;
 ghost use Rattle.remarks.specs.Added.{AddsFor, AddsSome};
 ghost use Rattle.remarks.specs.Again.{ReadsProperties};
-ghost use Rattle.remarks.specs.Remarks.{AreEffects, IsShortFile, as_file, effects_over};
+ghost use Rattle.remarks.specs.Remarks.{AreEffects, IsShortFile, as_file, effects_over, remarks_of};
 
 use crate::kinds::kind_table;
 use crate::map_effects::put_map_effects;
 use crate::remark_out::RemarkOut;
 use crate::remarks::put_effects;
-use crate::site_file::SiteFile;
+use crate::site_file::{SiteFile, SiteNames};
 use jk_io::{IoError, Sink};
-use site_config::{Config, PropsError};
-use site_mounts::{MapError, UriMap, read_map};
-use site_workers::read_workers;
+use site_config::Config;
+use site_mounts::UriMap;
+use site_reports::{AcceptedSite, SiteFound};
 use std::alloc::Global;
 
 /// Adds what has no effect in a workers.properties that gives this configuration, and in a map of these rules.
@@ -28,47 +28,52 @@ fn put_both<O: Sink + Drop>(
     requires workers { IsShortFile workers.now }
     requires map { IsShortFile map.now }
     ensures { AddsFor result out.old out.new (ReadsProperties workers.now.text.now)
-        (effects_over config.now (as_file workers.now) (as_file map.now) (Ok rules.now)) }
+        (effects_over config.now (as_file workers.now) (as_file map.now) rules.now) }
 {
     let table = kind_table(alloc, config)?;
     put_effects(alloc, out, config, &table, workers)?;
     put_map_effects(alloc, out, &table, map, rules)
 }
 
-/// Adds what has no effect in files whose workers.properties gives this configuration, where the map is accepted.
-fn put_over<O: Sink + Drop>(
+/// Adds what has no effect in files that are accepted.
+pub(crate) fn put_site_effects<O: Sink + Drop>(
     alloc: Global,
     out: &mut RemarkOut<O>,
-    config: &Config,
-    workers: &SiteFile<'_>,
-    map: &SiteFile<'_>,
+    names: &SiteNames<'_>,
+    site: &AcceptedSite,
 ) -> Result<(), IoError>
-    requires workers { IsShortFile workers.now }
-    requires map { IsShortFile map.now }
-    ensures { AddsFor result out.old out.new (ReadsProperties workers.now.text.now)
-        (effects_over config.now (as_file workers.now) (as_file map.now) (read_text config.now map.now.text.now)) }
+    ensures { AddsFor result out.old out.new (ReadsProperties site.now.workers.text)
+        (remarks_of true names.now.workers.now names.now.map.now (found.Site site.now)) }
 {
-    match read_map(alloc, map.text, config) {
-        Ok(rules) => put_both(alloc, out, config, &rules, workers, map),
-        Err(MapError::Refused { .. }) => Ok(()),
-        Err(MapError::NoMemory) => Err(IoError::NoMemory),
-    }
+    let workers = SiteFile {
+        name: names.workers,
+        text: site.workers.text.as_slice(),
+    };
+    let map = SiteFile {
+        name: names.map,
+        text: site.map.as_slice(),
+    };
+    put_both(
+        alloc,
+        out,
+        &site.workers.config,
+        &site.rules,
+        &workers,
+        &map,
+    )
 }
 
 /// Adds what in a site's files has no effect, where both are accepted. Of files that are refused nothing is said.
-pub(crate) fn site_effects<O: Sink + Drop>(
+pub fn effects_on<O: Sink + Drop>(
     alloc: Global,
     out: &mut RemarkOut<O>,
-    workers: &SiteFile<'_>,
-    map: &SiteFile<'_>,
+    names: &SiteNames<'_>,
+    found: &SiteFound,
 ) -> Result<(), IoError>
-    requires workers { IsShortFile workers.now }
-    requires map { IsShortFile map.now }
-    ensures { AddsSome result out.old out.new (AreEffects (as_file workers.now) (as_file map.now)) }
+    ensures { AddsSome result out.old out.new (AreEffects names.now.workers.now names.now.map.now found.now) }
 {
-    match read_workers(alloc, workers.text) {
-        Ok(config) => put_over(alloc, out, &config, workers, map),
-        Err(PropsError::Refused { .. }) => Ok(()),
-        Err(PropsError::NoMemory) => Err(IoError::NoMemory),
+    match found {
+        SiteFound::Site(site) => put_site_effects(alloc, out, names, site),
+        SiteFound::Workers(_) | SiteFound::WorkersRefused(_) | SiteFound::MapRefused(_) => Ok(()),
     }
 }

@@ -2,14 +2,14 @@
 
 /// A file's name, as the words of the command give it, and its text.
 #[derive(Clone, Copy)]
-pub struct SiteFile<'t> {
-    pub name: &'t [u8],
-    pub text: &'t [u8],
+pub(crate) struct SiteFile<'t> {
+    pub(crate) name: &'t [u8],
+    pub(crate) text: &'t [u8],
 }
 
-/// A workers.properties, and a uriworkermap.properties where the command takes one.
+/// The names of a workers.properties and of a uriworkermap.properties; this one is empty where the command takes none.
 #[derive(Clone, Copy)]
-pub struct SiteFiles<'t> {
-    pub workers: SiteFile<'t>,
-    pub map: Option<SiteFile<'t>>,
+pub struct SiteNames<'n> {
+    pub workers: &'n [u8],
+    pub map: &'n [u8],
 }

@@ -18,7 +18,7 @@ pub fn put_checked(alloc: Global, text: &[u8], out: &mut Bytes) -> Result<(), No
     let mut input = link_with(alloc, text)?;
     let mut files = MemFiles::new(FileList::new(alloc), NumberList::new(alloc));
     let mut said = link_with(alloc, b"")?;
-    run_plain(alloc, &Order::Check, &mut files, &mut input, &mut said);
+    let_go(run_plain(alloc, &Order::Check, &mut files, &mut input, &mut said));
     out.extend(said.sent())
 }
 
@@ -33,8 +33,9 @@ pub fn status_of<R: Threads + Wait + Sync>(
 ) -> u8 {
     let mut input = MemLink::new(alloc, Bytes::new(alloc), NumberList::new(alloc));
     let asked = read_words(alloc, words);
-    let end = run_jkd(rt, alloc, &asked, files, &mut input, out, world);
+    let (end, site) = run_jkd(rt, alloc, &asked, files, &mut input, out, world);
     let_go(asked);
+    let_go(site);
     let status = end.status();
     let_go(end);
     status

@@ -1,12 +1,27 @@
--- The report of an accepted workers.properties.
-use Rattle.std.proofs.Common.{ℕ, List, Bool, Result, Ok, Err, IfOk, inr}
+-- The report of the files that were found, by their texts.
+use Rattle.std.proofs.Common.{◌≡◌, ℕ, false, true, List, Result, inl, inr, refl, sym, subst}
+use Rattle.site_config.specs.Refusals.{LineRefusal}
 use Rattle.site_config.specs.declared.config.Config.{Config}
-use Rattle.site_workers.specs.Site.{IsConfig}
-use Rattle.site_reports.specs.Reports.{OfWorkers}
-use Rattle.site_reports.specs.declared.report.Report.{Report}
+use Rattle.site_mounts.specs.declared.rule.Rule.{Rule}
+use Rattle.site_reports.specs.Found.{FindsSite, FindsWorkers, PrintsFound, is_refused, workers_refusal}
+use Rattle.site_reports.specs.Reports.{OfRules, OfSite, OfWorkers}
+use Rattle.site_reports.specs.declared.found.SiteFound.{SiteFound}
+use Rattle.site_reports.specs.declared.found.SiteFound.TheVariants as found
 
--- a report of the configuration is one of the text
-pub of_accepted : {E : Type 0} (workers : List ℕ) (of : Config → List ℕ → Bool → Type 0) (config : Config) → IsConfig workers config
-    → (result : Result Report E) → IfOk result (λ r. of config r.text r.refused) → IfOk result (λ r. OfWorkers workers of r.text r.refused)
-of_accepted workers of config is (Ok report) says = inr (config, is, says)
-of_accepted workers of config is (Err e) says = tt
+-- of a workers.properties alone
+pub workers_printed : (Alone : Config → List ℕ → Type 0) (Of : Config → List Rule → List ℕ → Type 0) (workers out : List ℕ) (f : SiteFound)
+    → FindsWorkers workers f → PrintsFound Alone Of f out → OfWorkers workers (λ c out refused. Alone c out × (refused ≡ false)) out (is_refused f)
+workers_printed Alone Of workers out (found.Workers w) finds prints = inr (w.config, finds.1, (prints, refl))
+workers_printed Alone Of workers out (found.Site s) finds prints = absurd finds
+workers_printed Alone Of workers out (found.WorkersRefused r) finds prints = inl (workers_refusal r, finds.1, (prints, refl))
+workers_printed Alone Of workers out (found.MapRefused r) finds prints = absurd finds
+
+-- of both files
+pub site_printed : (Alone : Config → List ℕ → Type 0) (Of : Config → List Rule → List ℕ → Type 0) (workers map out : List ℕ) (f : SiteFound)
+    → FindsSite workers map f → PrintsFound Alone Of f out → OfSite workers map Of out (is_refused f)
+site_printed Alone Of workers map out (found.Workers w) finds prints = absurd finds
+site_printed Alone Of workers map out (found.Site s) (text, is, second, read) prints =
+    inr (s.workers.config, is, subst (λ (r : Result (List Rule) LineRefusal). OfRules (Of s.workers.config) r out false) (sym read) (prints, refl))
+site_printed Alone Of workers map out (found.WorkersRefused r) finds prints = inl (workers_refusal r, finds.1, (prints, refl))
+site_printed Alone Of workers map out (found.MapRefused r) (text, is, second, read) prints =
+    inr (r.workers.config, is, subst (λ (x : Result (List Rule) LineRefusal). OfRules (Of r.workers.config) x out true) (sym read) (prints, refl))

@@ -1,26 +1,20 @@
--- A site's files, judged: both are read whole, or one of them is too long.
-use Rattle.std.proofs.Common.{ℕ, ◌≡◌, true, List, ◌++◌, Ok, Err, IfOk, Result, codes, inl, inr, refl, sym, subst}
+-- A site's files, judged.
+use Rattle.std.proofs.Common.{ℕ, ◌≡◌, Bool, true, List, ◌++◌, codes, inl, inr, refl, subst}
 use Rattle.site_reports.specs.Readings.{CommandOutside, File, IsLong, IsRead}
-use Rattle.site_config.specs.Refusals.{LineRefusal}
-use Rattle.site_config.specs.declared.config.Config.{Config}
 use Rattle.site_reports.specs.ConfigText.{config_text}
-use Rattle.site_reports.specs.Reports.{OfMap, refusal_line, rules_line}
-use Rattle.site_mounts.specs.Lines.{read_text}
-use Rattle.site_mounts.specs.declared.rule.Rule.{Rule}
-use Rattle.site_workers.specs.Site.{IsConfig}
+use Rattle.site_reports.specs.Found.{FindsSite, PrintsFound, is_refused}
+use Rattle.site_reports.specs.Reports.{ReportsSite, rules_line}
+use Rattle.site_reports.proofs.ReportLemmas.{site_printed}
 use Rattle.site_reports.specs.Sites.{IsJudgedSite, Judges}
+use Rattle.site_reports.specs.declared.found.SiteFound.{SiteFound}
 use Rattle.site_reports.specs.declared.reading.Judged.{Judged}
 use Rattle.site_reports.specs.declared.reading.Judged.TheVariants as judged
 
--- a map that is refused
-pub refused_map : {E : Type 0} (workers map : List ℕ) (cfg : Config) (r : LineRefusal) (result : Result Judged E) → IsConfig workers cfg → read_text cfg map ≡ Err r
-    → IfOk result (λ j. j ≡ judged.Refused (refusal_line (codes "map") r)) → IfOk result (λ j. Judges workers map j)
-refused_map workers map cfg r (Err e) config refused is = tt
-refused_map workers map cfg r (Ok j) config refused is =
-    let line = refusal_line (codes "map") r in
-    let of : OfMap cfg (read_text cfg map) (λ rules. config_text cfg ++ rules_line rules) line true =
-    subst (λ (read : Result (List Rule) LineRefusal). OfMap cfg read (λ rules. config_text cfg ++ rules_line rules) line true) (sym refused) (refl, refl) in
-    subst (λ (k : Judged). Judges workers map k) (sym is) (inr (cfg, config, of))
+-- files of which one is refused by this line
+pub judged_refused : (workers map line : List ℕ) (f : SiteFound) → FindsSite workers map f → is_refused f ≡ true
+    → PrintsFound (λ c out. ⊥) (λ c rules out. out ≡ config_text c ++ rules_line rules) f line → Judges workers map (judged.Refused line)
+judged_refused workers map line f finds refused prints =
+    subst (λ (r : Bool). ReportsSite workers map line r) refused (site_printed (λ c out. ⊥) (λ c rules out. out ≡ config_text c ++ rules_line rules) workers map line f finds prints)
 
 -- both files were read whole, and their texts were judged
 pub judged_so : (outside : CommandOutside) (workers map workers_text map_text : List ℕ) (j : Judged) → IsRead outside (File workers) workers_text → IsRead outside (File map) map_text

@@ -1,4 +1,5 @@
 pub mod ConfigText
+pub mod Found
 pub mod LimitLines
 pub mod Matches
 pub mod MemberLines

@@ -29,9 +29,13 @@ OfWorkers workers of out refused =
     ⊎ ((c : Config) × IsConfig workers c × of c out refused)
 
 -- the refusal of a uriworkermap.properties, or what is printed of its rules
-abbrev pub OfMap : Config → Result (List Rule) LineRefusal → (List Rule → List ℕ) → (out : List ℕ) → (refused : Bool) → Type 0
-OfMap c (Err r) of out refused = PrintsRefusal (codes "map") r out refused
-OfMap c (Ok rules) of out refused = (out ≡ of rules) × (refused ≡ false)
+abbrev pub OfRules : (List Rule → (out : List ℕ) → Type 0) → Result (List Rule) LineRefusal → (out : List ℕ) → (refused : Bool) → Type 0
+OfRules of (Err r) out refused = PrintsRefusal (codes "map") r out refused
+OfRules of (Ok rules) out refused = of rules out × (refused ≡ false)
+
+-- the refusal of either file, or what is printed of the configuration and the rules
+abbrev pub OfSite : (workers map : List ℕ) → (Config → List Rule → (out : List ℕ) → Type 0) → (out : List ℕ) → (refused : Bool) → Type 0
+OfSite workers map of out refused = OfWorkers workers (λ c out refused. OfRules (of c) (read_text c map) out refused) out refused
 
 -- `config` of a workers.properties alone
 abbrev pub ReportsConfig : (workers out : List ℕ) → (refused : Bool) → Type 0
@@ -40,12 +44,12 @@ ReportsConfig workers out refused = OfWorkers workers (λ c out refused. (out �
 -- `config` of both files
 abbrev pub ReportsSite : (workers map out : List ℕ) → (refused : Bool) → Type 0
 ReportsSite workers map out refused =
-    OfWorkers workers (λ c out refused. OfMap c (read_text c map) (λ rules. config_text c ++ rules_line rules) out refused) out refused
+    OfSite workers map (λ c rules out. out ≡ config_text c ++ rules_line rules) out refused
 
 -- `match` of both files and a list of paths
 abbrev pub ReportsMatches : (workers map paths : List ℕ) → (verbose : Bool) → (out : List ℕ) → (refused : Bool) → Type 0
 ReportsMatches workers map paths verbose out refused =
-    OfWorkers workers (λ c out refused. OfMap c (read_text c map) (λ rules. match_text c rules verbose paths) out refused) out refused
+    OfSite workers map (λ c rules out. out ≡ match_text c rules verbose paths) out refused
 
 -- the first of a site's two files that isn't read whole is too long
 pub record IsSiteTooLong (outside : CommandOutside) (workers map line : List ℕ) : Type 0 where

@@ -2,13 +2,16 @@
 //!
 //! Source: own rules for the lines (docs/FORMATS.md, "workers.properties" and "uriworkermap.properties").
 //! Contract: `put_config`, which adds `config_text`, and `put_matches`, which adds `match_text`. Read first:
-//! specs/ConfigText.antt, specs/Matches.antt. `read_site`, clause `ok`, reads both files and judges them: specs/Sites.antt.
+//! specs/ConfigText.antt, specs/Matches.antt. `judge_site` judges both texts, for all that is printed or told of them:
+//! specs/Found.antt. `read_site`, clause `ok`, reads both files and judges them: specs/Sites.antt.
 //! For the commands above, which read the files: specs/Readings.antt. `books_of` has a Book for each balancer: specs/Starts.antt.
 //! Errors: want of memory, and of `read_site` a fault of the files.
 #![tactic(auto)]
 
 mod books;
 mod config_text;
+mod found;
+mod judging;
 mod limits_line;
 mod match_text;
 mod member_line;
@@ -20,7 +23,9 @@ mod words;
 
 pub use books::{books_of, member_counts};
 pub use config_text::put_config;
+pub use found::{AcceptedSite, AcceptedWorkers, RefusedMap, RefusedWorkers, SiteFound};
+pub use judging::{judge_site, judge_workers};
 pub use match_text::put_matches;
 pub use reading::{Judged, read_site};
-pub use report::{Report, report_config, report_matches, report_site};
+pub use report::{Report, refusal_text, report_config, report_matches, report_site};
 pub use site::ReadSite;

@@ -1,15 +1,16 @@
 //! The two files of a site, read and judged.
-ghost use Rattle.std.specs.Prelude.{◌≡◌, ◌<◌, ◌≤◌, ℕ, List, Option, Some, true, length, codes, IfOk, IsOk, IfSome, IfNone, IsSomeAnd};
+ghost use Rattle.std.specs.Prelude.{◌≡◌, ◌<◌, ◌≤◌, ℕ, List, Option, Some, length, codes, IfOk, IsOk, IfSome, IfNone, IsSomeAnd};
 ghost use Rattle.jk_io.specs.Stored.{content_of};
 ghost use Rattle.jk_io.specs.Told.{HasCause};
-ghost use Rattle.site_reports.specs.Reports.{refusal_line};
+ghost use Rattle.site_reports.specs.Found.{FindsSite};
 ghost use Rattle.jk_io.specs.declared.whole_input.TheConstants.{MAX_INPUT_BYTES};
 ghost use Rattle.site_reports.specs.Sites.{IsJudgedSite, Judges};
 
+use crate::found::{AcceptedSite, AcceptedWorkers, SiteFound};
+use crate::judging::judge_site;
+use crate::report::refusal_text;
 use crate::site::ReadSite;
-use jk_io::{Bytes, FileError, Files, IoError, NoMemory, put_decimal};
-use site_mounts::{MapError, read_map};
-use site_workers::{PropsError, read_workers};
+use jk_io::{Bytes, FileError, Files, IoError, NoMemory};
 use std::alloc::Global;
 
 /// What the files of a site are: a site, or the line that refuses them.
@@ -36,35 +37,40 @@ fn text_of<F: Files>(alloc: Global, files: &mut F, name: &Bytes) -> Result<Optio
     }
 }
 
-/// The line of a file's first refusal, as `config` prints it.
-fn refused(alloc: Global, file: &[u8], line: u32, code: u8) -> Result<Judged, NoMemory>
-    ensures { IfOk result (λ judged. judged ≡ Judged.Refused (refusal_line file.now (record { line = line; code = code }))) }
+/// The site that two accepted files give.
+fn site_of(site: AcceptedSite) -> ReadSite
+    ensures { (result.cfg ≡ site.workers.config) × (result.map ≡ site.rules) }
 {
-    let mut text = Bytes::new(alloc);
-    text.extend(file)?;
-    text.extend(b" line ")?;
-    put_decimal(&mut text, u128::from(line))?;
-    text.extend(b": refusal ")?;
-    put_decimal(&mut text, u128::from(code))?;
-    text.extend(b"\n")?;
-    Ok(Judged::Refused(text))
+    let AcceptedSite { workers, rules, .. } = site;
+    let AcceptedWorkers { config, .. } = workers;
+    ReadSite {
+        cfg: config,
+        map: rules,
+    }
+}
+
+/// What was found, as a site or as the line that refuses it.
+fn judged_as(alloc: Global, found: SiteFound) -> Result<Judged, NoMemory>
+    ensures { (workers map : List ℕ) → FindsSite workers map found → IfOk result (Judges workers map) }
+{
+    match found {
+        SiteFound::Workers(_) => Ok(Judged::Refused(Bytes::new(alloc))),
+        SiteFound::Site(site) => Ok(Judged::Site(site_of(site))),
+        SiteFound::WorkersRefused(r) => Ok(Judged::Refused(refusal_text(
+            alloc, b"workers", r.line, r.code,
+        )?)),
+        SiteFound::MapRefused(r) => Ok(Judged::Refused(refusal_text(
+            alloc, b"map", r.line, r.code,
+        )?)),
+    }
 }
 
 /// Judges the texts of a site.
-fn judge(alloc: Global, workers: &[u8], map: &[u8]) -> Result<Judged, NoMemory>
-    requires short { (length workers.now ≤ MAX_INPUT_BYTES) × (length map.now ≤ MAX_INPUT_BYTES) }
-    ensures { IfOk result (λ judged. Judges workers.now map.now judged) }
+fn judge(alloc: Global, workers: Bytes, map: Bytes) -> Result<Judged, NoMemory>
+    requires short { (length workers ≤ MAX_INPUT_BYTES) × (length map ≤ MAX_INPUT_BYTES) }
+    ensures { IfOk result (Judges workers map) }
 {
-    let cfg = match read_workers(alloc, workers) {
-        Ok(cfg) => cfg,
-        Err(PropsError::Refused { line, code }) => return refused(alloc, b"workers", line, code),
-        Err(PropsError::NoMemory) => return Err(NoMemory),
-    };
-    match read_map(alloc, map, &cfg) {
-        Ok(map) => Ok(Judged::Site(ReadSite { cfg, map })),
-        Err(MapError::Refused { line, code }) => refused(alloc, b"map", line, code),
-        Err(MapError::NoMemory) => Err(NoMemory),
-    }
+    judged_as(alloc, judge_site(alloc, workers, map)?)
 }
 
 /// The answer to a text beyond the limit.
@@ -91,5 +97,5 @@ pub fn read_site<F: Files>(
     let Some(map) = text_of(alloc, files, map)? else {
         return Ok(too_long(alloc)?);
     };
-    Ok(judge(alloc, workers.as_slice(), map.as_slice())?)
+    Ok(judge(alloc, workers, map)?)
 }

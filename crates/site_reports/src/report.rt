@@ -1,41 +1,39 @@
 //! Reports on a site's files, as `config` and `match` print them.
-ghost use Rattle.std.specs.Prelude.{◌≡◌, ◌++◌, ◌≤◌, length, false, IfOk, OnOk};
+ghost use Rattle.std.specs.Prelude.{◌≡◌, ◌++◌, ◌≤◌, length, IfOk, OnOk};
 ghost use Rattle.site_config.specs.Refusals.{LineRefusal};
-ghost use Rattle.site_mounts.specs.Lines.{read_text};
 ghost use Rattle.site_reports.specs.ConfigText.{config_text};
+ghost use Rattle.site_reports.specs.Found.{FindsSite, FindsWorkers, PrintsFound, PrintsSite, is_refused};
 ghost use Rattle.site_reports.specs.Matches.{match_text};
-ghost use Rattle.site_reports.specs.Reports.{OfMap, PrintsRefusal, ReportsConfig, ReportsMatches, ReportsSite, rules_line};
+ghost use Rattle.site_reports.specs.Reports.{ReportsConfig, ReportsMatches, ReportsSite, refusal_line, rules_line};
 ghost use Rattle.jk_io.specs.declared.whole_input.TheConstants.{MAX_INPUT_BYTES};
 
 use crate::config_text::put_config;
+use crate::found::{AcceptedSite, SiteFound};
+use crate::judging::{judge_site, judge_workers};
 use crate::match_text::put_matches;
 use crate::words::put_number;
 use jk_io::{Bytes, NoMemory};
 use site_config::Config;
-use site_mounts::{MapError, UriMap, read_map};
-use site_workers::{PropsError, read_workers};
+use site_mounts::UriMap;
 use std::alloc::Global;
 
-/// What a command prints, and whether that is the refusal of a file.
+/// What a command prints of a site's files, and what it found of them.
 #[derive(Drop)]
 pub struct Report {
     pub text: Bytes,
-    pub refused: bool,
+    pub found: SiteFound,
 }
 
-// The first refusal of a file.
-fn refused(alloc: Global, file: &[u8], line: u32, code: u8) -> Result<Report, NoMemory>
-    ensures { IfOk result (λ r. PrintsRefusal file.now (record { line = line; code = code }) r.text r.refused) }
+/// The first refusal of a file.
+pub fn refusal_text(alloc: Global, file: &[u8], line: u32, code: u8) -> Result<Bytes, NoMemory>
+    ensures { IfOk result (λ text. text ≡ refusal_line file.now (record { line = line; code = code })) }
 {
     let mut text = Bytes::new(alloc);
     text.extend(file)?;
     put_number(&mut text, b" line ", u64::from(line))?;
     put_number(&mut text, b": refusal ", u64::from(code))?;
     text.extend(b"\n")?;
-    Ok(Report {
-        text,
-        refused: true,
-    })
+    Ok(text)
 }
 
 fn put_rules(out: &mut Bytes, map: &UriMap) -> Result<(), NoMemory>
@@ -45,116 +43,109 @@ fn put_rules(out: &mut Bytes, map: &UriMap) -> Result<(), NoMemory>
     out.extend(b"\n")
 }
 
-fn of_config(alloc: Global, config: &Config) -> Result<Report, NoMemory>
-    ensures { IfOk result (λ r. (r.text ≡ config_text config.now) × (r.refused ≡ false)) }
+fn of_config(alloc: Global, config: &Config) -> Result<Bytes, NoMemory>
+    ensures { IfOk result (λ text. text ≡ config_text config.now) }
 {
     let mut text = Bytes::new(alloc);
     put_config(&mut text, config)?;
-    Ok(Report {
-        text,
-        refused: false,
-    })
+    Ok(text)
 }
 
-fn of_rules(alloc: Global, config: &Config, map: &UriMap) -> Result<Report, NoMemory>
-    ensures { IfOk result (λ r. (r.text ≡ config_text config.now ++ rules_line map.now) × (r.refused ≡ false)) }
+fn of_rules(alloc: Global, site: &AcceptedSite) -> Result<Bytes, NoMemory>
+    ensures { IfOk result (λ text. text ≡ config_text site.now.workers.config ++ rules_line site.now.rules) }
 {
     let mut text = Bytes::new(alloc);
-    put_config(&mut text, config)?;
-    put_rules(&mut text, map)?;
-    Ok(Report {
-        text,
-        refused: false,
-    })
+    put_config(&mut text, &site.workers.config)?;
+    put_rules(&mut text, &site.rules)?;
+    Ok(text)
 }
 
 fn of_paths(
     alloc: Global,
-    config: &Config,
-    map: &UriMap,
+    site: &AcceptedSite,
     paths: &[u8],
     verbose: bool,
-) -> Result<Report, NoMemory>
-    ensures { IfOk result (λ r. (r.text ≡ match_text config.now map.now verbose paths.now) × (r.refused ≡ false)) }
+) -> Result<Bytes, NoMemory>
+    ensures { IfOk result (λ text. text ≡ match_text site.now.workers.config site.now.rules verbose paths.now) }
 {
     let mut text = Bytes::new(alloc);
-    put_matches(alloc, &mut text, config, map, paths, verbose)?;
-    Ok(Report {
-        text,
-        refused: false,
-    })
+    put_matches(
+        alloc,
+        &mut text,
+        &site.workers.config,
+        &site.rules,
+        paths,
+        verbose,
+    )?;
+    Ok(text)
 }
 
-fn of_site(alloc: Global, config: &Config, map: &[u8]) -> Result<Report, NoMemory>
-    requires short { length map.now ≤ MAX_INPUT_BYTES }
-    ensures { IfOk result (λ r. OfMap config.now (read_text config.now map.now)
-        (λ rules. config_text config.now ++ rules_line rules) r.text r.refused) }
+/// What `config` prints of what was found.
+fn config_of(alloc: Global, found: &SiteFound) -> Result<Bytes, NoMemory>
+    ensures { IfOk result (PrintsFound (λ c out. out ≡ config_text c) (λ c rules out. out ≡ config_text c ++ rules_line rules) found.now) }
 {
-    match read_map(alloc, map, config) {
-        Ok(map) => of_rules(alloc, config, &map),
-        Err(MapError::Refused { line, code }) => refused(alloc, b"map", line, code),
-        Err(MapError::NoMemory) => Err(NoMemory),
+    match found {
+        SiteFound::Workers(workers) => of_config(alloc, &workers.config),
+        SiteFound::Site(site) => of_rules(alloc, site),
+        SiteFound::WorkersRefused(r) => refusal_text(alloc, b"workers", r.line, r.code),
+        SiteFound::MapRefused(r) => refusal_text(alloc, b"map", r.line, r.code),
     }
 }
 
-fn of_matches(
+/// What `match` prints of what was found of both files.
+fn matches_of(
     alloc: Global,
-    config: &Config,
-    map: &[u8],
+    found: &SiteFound,
     paths: &[u8],
     verbose: bool,
-) -> Result<Report, NoMemory>
-    requires short { length map.now ≤ MAX_INPUT_BYTES }
-    ensures { IfOk result (λ r. OfMap config.now (read_text config.now map.now)
-        (λ rules. match_text config.now rules verbose paths.now) r.text r.refused) }
+) -> Result<Bytes, NoMemory>
+    ensures { IfOk result (PrintsSite (λ c rules out. out ≡ match_text c rules verbose paths.now) found.now) }
 {
-    match read_map(alloc, map, config) {
-        Ok(map) => of_paths(alloc, config, &map, paths, verbose),
-        Err(MapError::Refused { line, code }) => refused(alloc, b"map", line, code),
-        Err(MapError::NoMemory) => Err(NoMemory),
+    match found {
+        SiteFound::Workers(_) => Ok(Bytes::new(alloc)),
+        SiteFound::Site(site) => of_paths(alloc, site, paths, verbose),
+        SiteFound::WorkersRefused(r) => refusal_text(alloc, b"workers", r.line, r.code),
+        SiteFound::MapRefused(r) => refusal_text(alloc, b"map", r.line, r.code),
     }
 }
 
 /// What `config` prints of a workers.properties: the lines of its configuration, or of its first refusal.
-pub fn report_config(alloc: Global, workers: &[u8]) -> Result<Report, NoMemory>
-    requires short { length workers.now ≤ MAX_INPUT_BYTES }
-    ensures { IfOk result (λ r. ReportsConfig workers.now r.text r.refused) }
+pub fn report_config(alloc: Global, workers: Bytes) -> Result<Report, NoMemory>
+    requires short { length workers ≤ MAX_INPUT_BYTES }
+    ensures text { IfOk result (λ r. ReportsConfig workers r.text (is_refused r.found)) }
+    ensures found { IfOk result (λ r. FindsWorkers workers r.found) }
 {
-    match read_workers(alloc, workers) {
-        Ok(config) => of_config(alloc, &config),
-        Err(PropsError::Refused { line, code }) => refused(alloc, b"workers", line, code),
-        Err(PropsError::NoMemory) => Err(NoMemory),
-    }
+    let found = judge_workers(alloc, workers)?;
+    let text = config_of(alloc, &found)?;
+    Ok(Report { text, found })
 }
 
 /// What `config` prints of both files: the configuration and the number of its rules, or the line of the first
 /// refusal, those of the workers.properties before those of the map.
-pub fn report_site(alloc: Global, workers: &[u8], map: &[u8]) -> Result<Report, NoMemory>
-    requires short { (length workers.now ≤ MAX_INPUT_BYTES) × (length map.now ≤ MAX_INPUT_BYTES) }
-    ensures { IfOk result (λ r. ReportsSite workers.now map.now r.text r.refused) }
+pub fn report_site(alloc: Global, workers: Bytes, map: Bytes) -> Result<Report, NoMemory>
+    requires short { (length workers ≤ MAX_INPUT_BYTES) × (length map ≤ MAX_INPUT_BYTES) }
+    ensures text { IfOk result (λ r. ReportsSite workers map r.text (is_refused r.found)) }
+    ensures found { IfOk result (λ r. FindsSite workers map r.found) }
 {
-    match read_workers(alloc, workers) {
-        Ok(config) => of_site(alloc, &config, map),
-        Err(PropsError::Refused { line, code }) => refused(alloc, b"workers", line, code),
-        Err(PropsError::NoMemory) => Err(NoMemory),
-    }
+    let found = judge_site(alloc, workers, map)?;
+    let text = config_of(alloc, &found)?;
+    Ok(Report { text, found })
 }
 
 /// What `match` prints of both files and a list of paths: a line for each path, or that of the first refusal; `-v` makes it
 /// verbose.
 pub fn report_matches(
     alloc: Global,
-    workers: &[u8],
-    map: &[u8],
+    workers: Bytes,
+    map: Bytes,
     paths: &[u8],
     verbose: bool,
 ) -> Result<Report, NoMemory>
-    requires short { (length workers.now ≤ MAX_INPUT_BYTES) × (length map.now ≤ MAX_INPUT_BYTES) }
-    ensures { IfOk result (λ r. ReportsMatches workers.now map.now paths.now verbose r.text r.refused) }
+    requires short { (length workers ≤ MAX_INPUT_BYTES) × (length map ≤ MAX_INPUT_BYTES) }
+    ensures text { IfOk result (λ r. ReportsMatches workers map paths.now verbose r.text (is_refused r.found)) }
+    ensures found { IfOk result (λ r. FindsSite workers map r.found) }
 {
-    match read_workers(alloc, workers) {
-        Ok(config) => of_matches(alloc, &config, map, paths, verbose),
-        Err(PropsError::Refused { line, code }) => refused(alloc, b"workers", line, code),
-        Err(PropsError::NoMemory) => Err(NoMemory),
-    }
+    let found = judge_site(alloc, workers, map)?;
+    let text = matches_of(alloc, &found, paths, verbose)?;
+    Ok(Report { text, found })
 }

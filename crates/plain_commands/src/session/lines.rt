@@ -43,7 +43,7 @@ fn put_members(alloc: Global, out: &mut Bytes, talks: &[Talk]) -> Result<(), NoM
     put_bytes(alloc, out, b"to member ", sent.as_slice())
 }
 
-pub(crate) fn put_number(out: &mut Bytes, word: &[u8], number: u32) -> Result<(), NoMemory>
+fn put_number(out: &mut Bytes, word: &[u8], number: u32) -> Result<(), NoMemory>
     ensures { OnOk result (out.new ≡ out.old ++ word.now ++ decimal number) }
 {
     out.extend(word)?;

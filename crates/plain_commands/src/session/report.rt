@@ -1,16 +1,13 @@
 //! One session over memory, and what is printed of it.
-ghost use Rattle.std.specs.Prelude.{◌≡◌, ◌≤◌, length, true, false, codes, IfOk, IsSomeAnd};
+ghost use Rattle.std.specs.Prelude.{◌≡◌, ◌≤◌, length, true, codes, IfOk, IsSomeAnd};
 ghost use Rattle.jk_io.specs.declared.whole_input.TheConstants.{MAX_INPUT_BYTES};
-ghost use Rattle.site_config.specs.Refusals.{LineRefusal};
-ghost use Rattle.site_reports.specs.Reports.{PrintsRefusal};
-ghost use Rattle.site_mounts.specs.Lines.{read_text};
-ghost use Rattle.site_mounts.specs.Sites.{stands_in};
-ghost use Rattle.plain_commands.specs.Dry.{Dries, IsDryRun, OfRules, ReportsDry, Runs};
+ghost use Rattle.site_reports.specs.Found.{FindsSite, PrintsSite, is_refused};
+ghost use Rattle.plain_commands.specs.Dry.{Dries, ReportsDry, Runs, RunsIfCalm};
 ghost use Rattle.plain_commands.specs.DryLines.{dry_text, end_words};
 ghost use Rattle.plain_commands.specs.DryStarts.{IsFirstClient, IsFirstDesk, IsFirstReach};
 
 use crate::plain::let_go;
-use crate::session::lines::{lines_of, put_number, words_of};
+use crate::session::lines::{lines_of, words_of};
 use crate::session::one_reply::{OneReply, ReplyName, link_of};
 use crate::session::start::{desk_of, reach_of};
 use client_session::{SessionEnd, SessionSite, Surroundings, serve_session};
@@ -18,10 +15,7 @@ use http_front::Inbox;
 use jk_io::{Bytes, MemLink, NoMemory, NumberList, Peer, StepClock};
 use lb_book::PlainDesk;
 use lb_model::ServedList;
-use site_config::Config;
-use site_mounts::{MapError, UriMap, read_map};
-use site_reports::Report;
-use site_workers::{PropsError, read_workers};
+use site_reports::{AcceptedSite, Report, SiteFound, judge_site, refusal_text};
 use std::alloc::Global;
 use std::marker::Brand;
 
@@ -38,12 +32,6 @@ pub(crate) struct Wire<'t> {
     pub reply: &'t [u8],
 }
 
-#[derive(Clone, Copy)]
-pub(crate) struct Site<'t> {
-    pub config: &'t Config,
-    pub map: &'t UriMap,
-}
-
 /// What is told of a session: its lines, and a row for each request that was answered.
 #[derive(Drop)]
 pub(crate) struct Ran {
@@ -54,25 +42,23 @@ pub(crate) struct Ran {
 // Serves the client. The clock answers 0 whenever it is asked.
 fn serve<N: ReplyName>(
     alloc: Global,
-    site: &Site<'_>,
+    site: &AcceptedSite,
     peer: &Peer,
     desk: &mut PlainDesk,
     reach: &mut OneReply<N>,
     client: &mut MemLink,
 ) -> Result<(SessionEnd, ServedList), NoMemory>
-    requires stands { stands_in site.now.config.now site.now.map.now ≡ true }
     requires peer { peer.now.addr ≡ codes "127.0.0.1" }
-    requires desk { IsFirstDesk site.now.config.now.lbs desk.old }
-    requires reach { IsFirstReach site.now.config.now.lbs reach.old }
+    requires desk { IsFirstDesk site.now.workers.config.lbs desk.old }
+    requires reach { IsFirstReach site.now.workers.config.lbs reach.old }
     requires client { IsFirstClient client.old }
-    ensures { IfOk result (λ ran. (reach.new.faults ≡ 0) × (client.new.faults ≡ 0) → IsDryRun site.now.config.now site.now.map.now
-        client.old.incoming N.reply reach.new.book.talks client.new.sent ran.0 ran.1.rows) }
+    ensures { IfOk result (λ ran. RunsIfCalm site.now.workers.config site.now.rules N.reply client.old client.new reach.new ran.0 ran.1.rows) }
 {
     let mut clock = StepClock::new(NumberList::new(alloc));
     let mut inbox = Inbox::new(alloc)?;
     let site = SessionSite {
-        cfg: site.config,
-        map: site.map,
+        cfg: &site.workers.config,
+        map: &site.rules,
         session: 0,
         peer,
         dated: false,
@@ -112,16 +98,15 @@ fn tell_end<N: ReplyName>(
 
 fn tell<N: ReplyName>(
     alloc: Global,
-    site: &Site<'_>,
+    site: &AcceptedSite,
     desk: &mut PlainDesk,
     reach: &mut OneReply<N>,
     client: &mut MemLink,
 ) -> Result<Ran, NoMemory>
-    requires stands { stands_in site.now.config.now site.now.map.now ≡ true }
-    requires desk { IsFirstDesk site.now.config.now.lbs desk.old }
-    requires reach { IsFirstReach site.now.config.now.lbs reach.old }
+    requires desk { IsFirstDesk site.now.workers.config.lbs desk.old }
+    requires reach { IsFirstReach site.now.workers.config.lbs reach.old }
     requires client { IsFirstClient client.old }
-    ensures { IfOk result (λ r. Runs site.now.config.now site.now.map.now client.old.incoming N.reply r.lines r.rows.rows) }
+    ensures { IfOk result (λ r. Runs site.now.workers.config site.now.rules client.old.incoming N.reply r.lines r.rows.rows) }
 {
     let peer = Peer {
         addr: Bytes::from_slice(alloc, b"127.0.0.1")?,
@@ -136,45 +121,42 @@ fn tell<N: ReplyName>(
 
 fn with_client<N: ReplyName>(
     alloc: Global,
-    site: &Site<'_>,
+    site: &AcceptedSite,
     request: &[u8],
     desk: &mut PlainDesk,
     reach: &mut OneReply<N>,
 ) -> Result<Ran, NoMemory>
-    requires stands { stands_in site.now.config.now site.now.map.now ≡ true }
-    requires desk { IsFirstDesk site.now.config.now.lbs desk.old }
-    requires reach { IsFirstReach site.now.config.now.lbs reach.old }
-    ensures { IfOk result (λ r. Runs site.now.config.now site.now.map.now request.now N.reply r.lines r.rows.rows) }
+    requires desk { IsFirstDesk site.now.workers.config.lbs desk.old }
+    requires reach { IsFirstReach site.now.workers.config.lbs reach.old }
+    ensures { IfOk result (λ r. Runs site.now.workers.config site.now.rules request.now N.reply r.lines r.rows.rows) }
 {
     tell(alloc, site, desk, reach, &mut link_of(alloc, request)?)
 }
 
 fn with_desk<N: ReplyName>(
     alloc: Global,
-    site: &Site<'_>,
+    site: &AcceptedSite,
     request: &[u8],
     reach: &mut OneReply<N>,
 ) -> Result<Ran, NoMemory>
-    requires stands { stands_in site.now.config.now site.now.map.now ≡ true }
-    requires reach { IsFirstReach site.now.config.now.lbs reach.old }
-    ensures { IfOk result (λ r. Runs site.now.config.now site.now.map.now request.now N.reply r.lines r.rows.rows) }
+    requires reach { IsFirstReach site.now.workers.config.lbs reach.old }
+    ensures { IfOk result (λ r. Runs site.now.workers.config site.now.rules request.now N.reply r.lines r.rows.rows) }
 {
-    let lbs = site.config.lbs.as_slice();
+    let lbs = site.workers.config.lbs.as_slice();
     with_client(alloc, site, request, &mut desk_of(alloc, lbs)?, reach)
 }
 
 /// A session over this site.
 pub(crate) fn with_reach<N: ReplyName>(
     alloc: Global,
-    site: &Site<'_>,
+    site: &AcceptedSite,
     request: &[u8],
     reply: &[u8],
 ) -> Result<Ran, NoMemory>
-    requires stands { stands_in site.now.config.now site.now.map.now ≡ true }
     requires reply { reply.now ≡ N.reply }
-    ensures { IfOk result (λ r. Runs site.now.config.now site.now.map.now request.now reply.now r.lines r.rows.rows) }
+    ensures { IfOk result (λ r. Runs site.now.workers.config site.now.rules request.now reply.now r.lines r.rows.rows) }
 {
-    let lbs = site.config.lbs.as_slice();
+    let lbs = site.workers.config.lbs.as_slice();
     match reach_of::<N>(alloc, lbs, reply) {
         Ok(mut reach) => {
             let told = with_desk(alloc, site, request, &mut reach);
@@ -185,59 +167,38 @@ pub(crate) fn with_reach<N: ReplyName>(
     }
 }
 
-// The report of a session over this site.
-fn of_site(alloc: Global, site: &Site<'_>, wire: Wire<'_>) -> Result<Report, NoMemory>
-    requires stands { stands_in site.now.config.now site.now.map.now ≡ true }
-    ensures { IfOk result (λ r. Dries site.now.config.now site.now.map.now wire.entry.request.now wire.entry.reply.now r.text
-        × (r.refused ≡ false)) }
+// The lines of a session over this site.
+fn of_site(alloc: Global, site: &AcceptedSite, wire: Wire<'_>) -> Result<Bytes, NoMemory>
+    ensures { IfOk result (Dries site.now.workers.config site.now.rules wire.entry.request.now wire.entry.reply.now) }
 {
     let Ran { lines, .. } = with_reach::<Brand>(alloc, site, wire.request, wire.reply)?;
-    Ok(Report {
-        text: lines,
-        refused: false,
-    })
+    Ok(lines)
 }
 
-/// The first refusal of a file.
-pub(crate) fn refused(alloc: Global, file: &[u8], line: u32, code: u8) -> Result<Report, NoMemory>
-    ensures { IfOk result (λ r. PrintsRefusal file.now (record { line = line; code = code }) r.text r.refused) }
+// What is printed over what was found of a site's files.
+fn lines_over(alloc: Global, found: &SiteFound, wire: Wire<'_>) -> Result<Bytes, NoMemory>
+    ensures { IfOk result (PrintsSite (λ c rules out. Dries c rules wire.entry.request.now wire.entry.reply.now out) found.now) }
 {
-    let mut text = Bytes::new(alloc);
-    text.extend(file)?;
-    put_number(&mut text, b" line ", line)?;
-    put_number(&mut text, b": refusal ", u32::from(code))?;
-    text.extend(b"\n")?;
-    Ok(Report {
-        text,
-        refused: true,
-    })
-}
-
-fn of_config(alloc: Global, config: &Config, map: &[u8], wire: Wire<'_>) -> Result<Report, NoMemory>
-    requires short { length map.now ≤ MAX_INPUT_BYTES }
-    ensures { IfOk result (λ r. OfRules (λ rules out. Dries config.now rules wire.entry.request.now wire.entry.reply.now out)
-        (read_text config.now map.now) r.text r.refused) }
-{
-    match read_map(alloc, map, config) {
-        Ok(map) => of_site(alloc, &Site { config, map: &map }, wire),
-        Err(MapError::Refused { line, code }) => refused(alloc, b"map", line, code),
-        Err(MapError::NoMemory) => Err(NoMemory),
+    match found {
+        SiteFound::Workers(_) => Ok(Bytes::new(alloc)),
+        SiteFound::Site(site) => of_site(alloc, site, wire),
+        SiteFound::WorkersRefused(r) => refusal_text(alloc, b"workers", r.line, r.code),
+        SiteFound::MapRefused(r) => refusal_text(alloc, b"map", r.line, r.code),
     }
 }
 
 /// What `dry` prints: the lines of a session, or of the first refusal of the site's files.
 pub(crate) fn report_dry(
     alloc: Global,
-    workers: &[u8],
-    map: &[u8],
+    workers: Bytes,
+    map: Bytes,
     wire: Wire<'_>,
 ) -> Result<Report, NoMemory>
-    requires short { (length workers.now ≤ MAX_INPUT_BYTES) × (length map.now ≤ MAX_INPUT_BYTES) }
-    ensures { IfOk result (λ r. ReportsDry wire.entry.request.now wire.entry.reply.now workers.now map.now r.text r.refused) }
+    requires short { (length workers ≤ MAX_INPUT_BYTES) × (length map ≤ MAX_INPUT_BYTES) }
+    ensures text { IfOk result (λ r. ReportsDry wire.entry.request.now wire.entry.reply.now workers map r.text (is_refused r.found)) }
+    ensures found { IfOk result (λ r. FindsSite workers map r.found) }
 {
-    match read_workers(alloc, workers) {
-        Ok(config) => of_config(alloc, &config, map, wire),
-        Err(PropsError::Refused { line, code }) => refused(alloc, b"workers", line, code),
-        Err(PropsError::NoMemory) => Err(NoMemory),
-    }
+    let found = judge_site(alloc, workers, map)?;
+    let text = lines_over(alloc, &found, wire)?;
+    Ok(Report { text, found })
 }

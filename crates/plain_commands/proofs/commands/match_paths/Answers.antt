@@ -8,7 +8,7 @@ use Rattle.plain_commands.proofs.commands.match_paths.Goals as goal
 pub returns-in-None-clause-ok : goal.returns-in-None-clause-ok
 returns-in-None-clause-ok g c =
     let outside : CommandOutside = record { files = g.F.Files.files c.args.files.now; incoming = g.S.Meanings.incoming c.args.input.now } in
-    long_at outside (File c.args.workers.now ∷ File c.args.map.now ∷ Input ∷ []) (AnswersOrder (order.Match c.args.workers.now c.args.map.now c.args.verbose)) c.too_long.result c.too_long.ensures.text c.too_long.ensures.ending
+    long_at outside (File c.args.workers.now ∷ File c.args.map.now ∷ Input ∷ []) (AnswersOrder (order.Match c.args.workers.now c.args.map.now c.args.verbose)) c.too_long.result c.too_long.ensures.said
     (stops_early outside (File c.args.workers.now) (File c.args.map.now) (Input ∷ []) (rw c.in-None.is at (c.in_ok-read_pair.ensures.long outside.incoming)))
 
 pub match_input-requires : goal.match_input-requires

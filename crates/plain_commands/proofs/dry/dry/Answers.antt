@@ -6,7 +6,7 @@ use Rattle.plain_commands.proofs.dry.dry.Goals as goal
 
 pub returns-in-None-clause-ok : goal.returns-in-None-clause-ok
 returns-in-None-clause-ok g c =
-    long_ok (λ incoming. record { files = g.F.Files.files c.args.files.now; incoming = incoming }) (readings (order.Dry c.args.request.now c.args.reply.now c.args.site.now)) (AnswersOrder (order.Dry c.args.request.now c.args.reply.now c.args.site.now)) c.too_long.result c.too_long.ensures.text c.too_long.ensures.ending
+    long_ok (λ incoming. record { files = g.F.Files.files c.args.files.now; incoming = incoming }) (readings (order.Dry c.args.request.now c.args.reply.now c.args.site.now)) (AnswersOrder (order.Dry c.args.request.now c.args.reply.now c.args.site.now)) c.too_long.result c.too_long.ensures.said
     (λ incoming. dry_stops _ c.args.request.now c.args.reply.now c.args.site.now (rw c.in-None.is at (c.in_ok-read_pair.ensures.long incoming)))
 
 pub returns-in-None-clause-cause : goal.returns-in-None-clause-cause

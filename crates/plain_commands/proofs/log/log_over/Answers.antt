@@ -9,7 +9,7 @@ pub returns-in-None-clause-ok : goal.returns-in-None-clause-ok
 returns-in-None-clause-ok g c =
     let n = c.args.names.now in
     long_ok (λ incoming. record { files = g.F.Files.files c.args.files.now; incoming = incoming })
-    (File n.request.now ∷ File n.reply.now ∷ File n.workers.now ∷ File n.map.now ∷ []) (LogOf c.args.format.now) c.too_long.result c.too_long.ensures.text c.too_long.ensures.ending
+    (File n.request.now ∷ File n.reply.now ∷ File n.workers.now ∷ File n.map.now ∷ []) (LogOf c.args.format.now) c.too_long.result c.too_long.ensures.said
     (λ incoming. stops_early (record { files = g.F.Files.files c.args.files.now; incoming = incoming }) (File n.request.now) (File n.reply.now) (File n.workers.now ∷ File n.map.now ∷ []) (rw c.in-None.is at (c.in_ok-read_pair.ensures.long incoming)))
 
 pub returns-in-None-clause-cause : goal.returns-in-None-clause-cause

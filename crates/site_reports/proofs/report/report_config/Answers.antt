@@ -1,8 +1,10 @@
-use Rattle.std.proofs.Common.{◌≡◌, false}
+use Rattle.std.proofs.Common.{◌≡◌, ◌++◌}
 use Rattle.site_reports.specs.ConfigText.{config_text}
-use Rattle.site_reports.proofs.ReportLemmas.{of_accepted}
+use Rattle.site_reports.specs.Reports.{rules_line}
+use Rattle.site_reports.proofs.ReportLemmas.{workers_printed}
 use Rattle.site_reports.proofs.report.report_config.Goals as goal
 
-pub returns-in-Ok : goal.returns-in-Ok
-returns-in-Ok c =
-    of_accepted c.args.workers.now (λ config out refused. (out ≡ config_text config) × (refused ≡ false)) c.in-Ok.config c.in-Ok.ensures.ok c.of_config.result c.of_config.ensures
+pub returns-clause-text : goal.returns-clause-text
+returns-clause-text c =
+    workers_printed (λ config out. out ≡ config_text config) (λ config rules out. out ≡ config_text config ++ rules_line rules) c.args.workers
+    c.in_ok-text.text c.in_ok-found.found c.in_ok-found.ensures c.in_ok-text.ensures

@@ -1,11 +1,10 @@
-use Rattle.std.proofs.Common.{◌++◌}
-use Rattle.site_mounts.specs.Lines.{read_text}
+use Rattle.std.proofs.Common.{◌≡◌, ◌++◌}
 use Rattle.site_reports.specs.ConfigText.{config_text}
-use Rattle.site_reports.specs.Reports.{OfMap, rules_line}
-use Rattle.site_reports.proofs.ReportLemmas.{of_accepted}
+use Rattle.site_reports.specs.Reports.{rules_line}
+use Rattle.site_reports.proofs.ReportLemmas.{site_printed}
 use Rattle.site_reports.proofs.report.report_site.Goals as goal
 
-pub returns-in-Ok : goal.returns-in-Ok
-returns-in-Ok c =
-    of_accepted c.args.workers.now (λ config out refused. OfMap config (read_text config c.args.map.now) (λ rules. config_text config ++ rules_line rules) out refused)
-    c.in-Ok.config c.in-Ok.ensures.ok c.of_site.result c.of_site.ensures
+pub returns-clause-text : goal.returns-clause-text
+returns-clause-text c =
+    site_printed (λ config out. out ≡ config_text config) (λ config rules out. out ≡ config_text config ++ rules_line rules) c.args.workers c.args.map
+    c.in_ok-text.text c.in_ok-found.found c.in_ok-found.ensures c.in_ok-text.ensures

@@ -1,9 +1,8 @@
-use Rattle.site_mounts.specs.Lines.{read_text}
-use Rattle.site_reports.proofs.ReportLemmas.{of_accepted}
-use Rattle.plain_commands.specs.Dry.{Dries, OfRules}
+use Rattle.std.proofs.Common.{◌≡◌, []}
+use Rattle.site_reports.proofs.ReportLemmas.{site_printed}
+use Rattle.plain_commands.specs.Dry.{Dries}
 use Rattle.plain_commands.proofs.session.report.report_dry.Goals as goal
 
-pub returns-in-Ok : goal.returns-in-Ok
-returns-in-Ok c =
-    of_accepted c.args.workers.now (λ config out refused. OfRules (λ rules out. Dries config rules c.args.wire.request.now c.args.wire.reply.now out) (read_text config c.args.map.now) out refused)
-    c.in-Ok.config c.in-Ok.ensures.ok c.of_config.result c.of_config.ensures
+pub returns-clause-text : goal.returns-clause-text
+returns-clause-text c =
+    site_printed (λ cfg out. out ≡ []) (λ cfg rules out. Dries cfg rules c.args.wire.request.now c.args.wire.reply.now out) c.args.workers c.args.map c.in_ok-text.text c.in_ok-found.found c.in_ok-found.ensures c.in_ok-text.ensures

@@ -13,9 +13,9 @@ serve_session-end-requires g c =
     let d = c.requires.desk in
     record {
       ready = record {
-        stands = c.requires.stands;
+        stands = c.args.site.now.stands;
         caller = rw d.is tt;
-        desk_sizes = rw d.is (starts_sizes c.args.site.now.config.now.lbs 0 0 d.books d.started);
+        desk_sizes = rw d.is (starts_sizes c.args.site.now.workers.config.lbs 0 0 d.books d.started);
         reach_sizes = c.requires.reach.sizes;
         idle = rw c.requires.reach.idle refl;
       };
@@ -35,7 +35,7 @@ returns g c calm =
       started = d.started;
       run = run_listed _ _ _ _ _ _ e.session.session.gained (e.session.session.added ∙ ap (λ (before : List Served). before ++ e.session.session.gained) c.new-rows.ensures)
           (run_from _ _ _ _ _ _ _ _ _ e.session.session
-          (ap (λ (addr : List ℕ). undated (visit c.args.site.now.config.now c.args.site.now.map.now 0 (record { addr = addr }))) c.requires.peer)
+          (ap (λ (addr : List ℕ). undated (visit c.args.site.now.workers.config c.args.site.now.rules 0 (record { addr = addr }))) c.requires.peer)
           (first_is _ _ c.args.reach.now c.args.client.now d.books d.is (c.new-clock.ensures ∙ c.new.ensures) c.requires.reach.no_talk c.requires.reach.no_fault k.received k.sent k.no_fault)
           (ap (λ (r : MemReachState). Some r.book.talks) (sym reach)) (ap (λ (l : MemLinkState). Some l.sent) (sym client))
           (rw (reach, client) at calm) (parts_at _ _ _ [] e.session.session.inbox _ e.session.parts) (λ idle. absurd (let no : false ≡ true = e.idle_only idle in cc)) e.each);

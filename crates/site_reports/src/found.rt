@@ -1,0 +1,62 @@
+//! The files of a site as a command judged them: what they give, or the first line that refuses them, each with its text.
+ghost use Rattle.std.specs.Prelude.{◌≡◌, ◌≤◌, Ok, Err, length, true};
+ghost use Rattle.jk_io.specs.declared.whole_input.TheConstants.{MAX_INPUT_BYTES};
+ghost use Rattle.site_config.specs.Refusals.{LineRefusal};
+ghost use Rattle.site_mounts.specs.Lines.{read_text};
+ghost use Rattle.site_mounts.specs.Sites.{stands_in};
+ghost use Rattle.site_workers.specs.Site.{IsConfig, IsRefusedText};
+
+use jk_io::Bytes;
+use site_config::Config;
+use site_mounts::UriMap;
+
+/// A workers.properties that is accepted.
+#[derive(Drop)]
+pub struct AcceptedWorkers {
+    pub text: Bytes,
+    pub config: Config,
+    pub ghost short: { length text ≤ MAX_INPUT_BYTES },
+    pub ghost gives: { ∥ IsConfig text config ∥₁ },
+}
+
+/// The files of a site, both of which are accepted.
+#[derive(Drop)]
+pub struct AcceptedSite {
+    pub workers: AcceptedWorkers,
+    pub map: Bytes,
+    pub rules: UriMap,
+    pub ghost short: { length map ≤ MAX_INPUT_BYTES },
+    pub ghost gives: { read_text workers.config map ≡ Ok rules },
+    pub ghost stands: { stands_in workers.config rules ≡ true },
+}
+
+/// A workers.properties that is refused, with its first refusal.
+#[derive(Drop)]
+pub struct RefusedWorkers {
+    pub text: Bytes,
+    pub line: u32,
+    pub code: u8,
+    pub ghost short: { length text ≤ MAX_INPUT_BYTES },
+    pub ghost refused: { ∥ IsRefusedText text (record { line = line; code = code }) ∥₁ },
+}
+
+/// A uriworkermap.properties that is refused, with its first refusal, and the workers.properties, which is accepted.
+#[derive(Drop)]
+pub struct RefusedMap {
+    pub workers: AcceptedWorkers,
+    pub text: Bytes,
+    pub line: u32,
+    pub code: u8,
+    pub ghost short: { length text ≤ MAX_INPUT_BYTES },
+    pub ghost refused: { read_text workers.config text ≡ Err (record { line = line; code = code }) },
+}
+
+/// What a command found of the files of a site.
+#[derive(Drop)]
+pub enum SiteFound {
+    /// A workers.properties alone, which is accepted.
+    Workers(AcceptedWorkers),
+    Site(AcceptedSite),
+    WorkersRefused(RefusedWorkers),
+    MapRefused(RefusedMap),
+}
