@@ -80,8 +80,9 @@ where
     let mut input = empty_link(alloc);
     let mut out = empty_link(alloc);
     let asked = read_words(alloc, words.as_slice());
-    let end = run_jkd(rt, alloc, &asked, &mut files, &mut input, &mut out, world);
+    let (end, site) = run_jkd(rt, alloc, &asked, &mut files, &mut input, &mut out, world);
     let_go(asked);
+    let_go(site);
     let status = end.status();
     let_go(end);
     world.end(status);
