@@ -35,7 +35,7 @@ pub(crate) fn threads_of(asked: &Result<Order, WordsError>) -> u32 {
 
 /// How what was read of the words ended, what it found of the files of a site, and the status that says so.
 #[derive(Drop)]
-struct Outcome {
+struct OrderEnd {
     end: JkdEnd,
     site: Option<SiteFound>,
     status: u8,
@@ -49,7 +49,7 @@ fn do_in<F: Files, S: Source, O: Sink, W: World, R: AllocGlobal + Threads + Wait
     input: &mut S,
     out: &mut O,
     world: &mut W,
-) -> Outcome
+) -> OrderEnd
 where
     <W::D as Door>::L: Send,
     ensures status { result.status ≡ status_of result.end }
@@ -61,7 +61,7 @@ where
 {
     let (end, site) = run_jkd(rt, rt.alloc(), asked, files, input, out, world);
     let status = end.status();
-    Outcome { end, site, status }
+    OrderEnd { end, site, status }
 }
 
 /// What is told of the files of a site: what the command found, or what was found ahead of serving.
@@ -103,7 +103,7 @@ where
     let mut files = KeptFiles::new(rt.alloc(), AheadFiles::new(files, ahead));
     let mut input = CountedInput::new(StdIn::new(rt.reader()));
     let mut out = StdOut::new(rt);
-    let Outcome { end, site, status } = do_in(rt, asked, &mut files, &mut input, &mut out, world);
+    let OrderEnd { end, site, status } = do_in(rt, asked, &mut files, &mut input, &mut out, world);
     let_go(end);
     let site = told_site(site, refused);
     if let Ok(reason) = reason(rt, asked, files.reads()) {
