@@ -6,6 +6,7 @@ use Rattle.std.proofs.lemmas.List.{append-nil, take-append-drop}
 use Rattle.jk_io.specs.Told.{appended, Rose, HasCause}
 use Rattle.jk_io.specs.declared.failures.IoError.{IoError}
 use Rattle.jk_io.specs.declared.failures.IoError.TheVariants as Io
+use Rattle.jk_io.specs.declared.traits.streams.Meanings.{Ghosts}
 use Rattle.jk_io.proofs.ToldLaws.{appended-nil}
 use Rattle.http_front.specs.Body.{Data, reaches}
 use Rattle.http_front.specs.Faults.{IsNoFailure}
@@ -15,7 +16,7 @@ use Rattle.http_front.specs.Walks.{counted}
 use Rattle.http_front.specs.declared.fault.BodyFault.{BodyFault}
 use Rattle.http_front.specs.declared.fault.BodyFault.TheVariants as fault
 use Rattle.jk_io.specs.Moments.{Moment}
-use Rattle.ajp_talk.specs.Moments.{BodyAt, data_at, IsSteady, IsUsed, IsFrontOf}
+use Rattle.ajp_talk.specs.Moments.{BodyAt, data_at, IsSteady, IsUsed, IsFrontOf, KeepsLink}
 use Rattle.ajp_talk.specs.declared.plan.TalkPlan.{TalkPlan}
 use Rattle.ajp_talk.specs.Owed.{answer, first_packet, request_of}
 use Rattle.ajp_talk.specs.Turns.{Sends, IsSent, GivesData, IsAskTurn, IsCalmTurn, fault_turn, turn_of_sent}
@@ -120,3 +121,11 @@ refused-calm fault.BadChunk before now steady calm = steady tt
 refused-calm fault.TooLong before now steady calm = steady tt
 refused-calm fault.Fault before now steady calm = absurd calm
 refused-calm fault.NoMemory before now steady calm = steady tt
+
+-- a link that no call touched
+pub keeps-same : {L B : Type 0} (told : Ghosts L B) (link : L) → KeepsLink told link link
+keeps-same told link = record { beside = refl; no_fewer = no_fewer-same _ }
+
+-- one call after another
+pub keeps-then : {L B : Type 0} (told : Ghosts L B) (before mid now : L) → KeepsLink told before mid → KeepsLink told mid now → KeepsLink told before now
+keeps-then told before mid now first next = record { beside = next.beside ∙ first.beside; no_fewer = no_fewer-then _ _ _ first.no_fewer next.no_fewer }

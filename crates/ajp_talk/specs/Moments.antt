@@ -1,5 +1,5 @@
 -- One moment of a talk: its link, its client and the request's body. An untold meaning is None.
-use Rattle.std.specs.Prelude.{ℕ, ◌≡◌, ◌+◌, ◌⊎◌, List, ◌++◌, length, Option, None}
+use Rattle.std.specs.Prelude.{ℕ, ◌≡◌, ◌+◌, ◌≤◌, ◌⊎◌, List, ◌++◌, length, Option, None}
 use Rattle.jk_io.specs.Moments.{Moment}
 use Rattle.jk_io.specs.declared.traits.streams.Meanings.{Ghosts}
 use Rattle.jk_io.specs.Told.{appended, prepended}
@@ -40,6 +40,11 @@ pub record Traffic (s n : Moment) (got put : List ℕ) : Type 0 where
 -- no call of the link failed
 abbrev pub IsSteady : Moment → Moment → Type 0
 IsSteady s n = n.faults ≡ s.faults
+
+-- What each call of a talk leaves of a link: what stands beside it stays, and its count of faults never falls.
+pub record KeepsLink {L B : Type 0} (told : Ghosts L B) (before now : L) : Type 0 where
+  pub beside : told.beside now ≡ told.beside before
+  pub no_fewer : told.faults before ≤ told.faults now
 
 -- this data was taken of the body, and no call of it was refused
 pub record TakesOfBody (s n : BodyAt) (taken : List ℕ) : Type 0 where

@@ -3,6 +3,7 @@
 ghost use Rattle.std.specs.Prelude.{◌≡◌, ◌<◌, ◌≤◌, None, length, IfOk};
 ghost use Rattle.http_front.specs.State.{failed_of};
 ghost use Rattle.ajp_wire.specs.Packet.{body_packet as body_packet_of};
+ghost use Rattle.ajp_talk.specs.Moments.{KeepsLink};
 ghost use Rattle.ajp_talk.specs.Owed.{want};
 ghost use Rattle.ajp_talk.specs.Turns.{IsAskTurn, IsCalmTurn, IsSent, turn_of_sent};
 ghost use Rattle.ajp_wire.specs.Moments.{link_at};
@@ -55,8 +56,7 @@ pub(crate) fn answer_ask<L: Link, C: Link>(
     ensures turn { let at = talk_over L.Meanings C.Meanings in
         IsAskTurn n (at line.old client.old upload.old) (at line.new client.new upload.new) sent.old sent.new result }
     ensures written { C.sent client.new ≡ C.sent client.old }
-    ensures beside { (L.beside line.new ≡ L.beside line.old) × (C.beside client.new ≡ C.beside client.old) }
-    ensures no_fewer { (L.faults line.old ≤ L.faults line.new) × (C.faults client.old ≤ C.faults client.new) }
+    ensures keeps { KeepsLink L.Meanings line.old line.new × KeepsLink C.Meanings client.old client.new }
     ensures calm { IsCalmTurn result → C.faults client.new ≡ C.faults client.old }
     ensures same { IsSameUpload upload.old upload.new }
 {
@@ -76,8 +76,7 @@ fn send_piece<L: Link>(
 ) -> Result<(), IoError>
     requires { length piece.now ≤ MAX_PIECE_BYTES }
     ensures sent { IsSent (link_at L.Meanings line.old) (link_at L.Meanings line.new) sent.old sent.new (body_packet_of piece.now) result }
-    ensures beside { L.beside line.new ≡ L.beside line.old }
-    ensures no_fewer { L.faults line.old ≤ L.faults line.new }
+    ensures keeps { KeepsLink L.Meanings line.old line.new }
 {
     match piece_packet(alloc, piece) {
         Ok(packet) => send(line, packet.as_slice(), sent),

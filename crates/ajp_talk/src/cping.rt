@@ -1,7 +1,8 @@
 //! CPing, and CPong that must answer it.
 
-ghost use Rattle.std.specs.Prelude.{◌≡◌, ◌<◌, ◌≤◌};
+ghost use Rattle.std.specs.Prelude.{◌≡◌, ◌<◌};
 ghost use Rattle.ajp_wire.specs.Moments.{link_at};
+ghost use Rattle.ajp_talk.specs.Moments.{KeepsLink};
 ghost use Rattle.ajp_talk.specs.Turns.{IsGreeting, pong_only as pong_only_of};
 
 use crate::awaiting::await_on;
@@ -28,8 +29,7 @@ pub(crate) fn greet<L: Link>(
     requires none_sent { sent.old ≡ 0 }
     requires none_received { received.old ≡ 0 }
     ensures greeting { IsGreeting plan.now (link_at L.Meanings line.old) (link_at L.Meanings line.new) sent.new received.new result }
-    ensures beside { L.beside line.new ≡ L.beside line.old }
-    ensures no_fewer { L.faults line.old ≤ L.faults line.new }
+    ensures keeps { KeepsLink L.Meanings line.old line.new }
 {
     if !plan.ping {
         return Ok(());

@@ -1,7 +1,8 @@
 //! The rest of a reply whose client is gone.
 
-ghost use Rattle.std.specs.Prelude.{◌≡◌, ◌≤◌, ◌<◌};
+ghost use Rattle.std.specs.Prelude.{◌≡◌, ◌<◌};
 ghost use Rattle.ajp_wire.specs.Moments.{link_at};
+ghost use Rattle.ajp_talk.specs.Moments.{KeepsLink};
 ghost use Rattle.ajp_talk.specs.Ends.{IsPlan};
 ghost use Rattle.ajp_talk.specs.Turns.{IsOnCourse};
 ghost use Rattle.ajp_talk.specs.Drains.{IsLostCourse, IsDrained, IsDrop, IsDroppedMessage, rest_after as rest_after_of, rest_without as rest_without_of};
@@ -28,8 +29,7 @@ pub(crate) fn drain<L: Link, C: Sink>(
     requires below { course.old.received < plan.now.most }
     ensures drained { IsDrained plan.now (link_at L.Meanings line.old) (link_at L.Meanings line.new) (link_at C.Meanings client.old) (link_at C.Meanings client.new) course.old course.new result }
     ensures incoming { C.incoming client.new ≡ C.incoming client.old }
-    ensures beside { (L.beside line.new ≡ L.beside line.old) × (C.beside client.new ≡ C.beside client.old) }
-    ensures no_fewer { (L.faults line.old ≤ L.faults line.new) × (C.faults client.old ≤ C.faults client.new) }
+    ensures keeps { KeepsLink L.Meanings line.old line.new × KeepsLink C.Meanings client.old client.new }
 {
     loop {
         match drop_next(room, plan, course, line, client) {
@@ -51,8 +51,7 @@ fn drop_next<L: Link, C: Sink>(
     requires { IsOnCourse course.old }
     ensures dropped { IsDrop plan.now (link_at L.Meanings line.old) (link_at L.Meanings line.new) (link_at C.Meanings client.old) (link_at C.Meanings client.new) course.old course.new result }
     ensures incoming { C.incoming client.new ≡ C.incoming client.old }
-    ensures beside { (L.beside line.new ≡ L.beside line.old) × (C.beside client.new ≡ C.beside client.old) }
-    ensures no_fewer { (L.faults line.old ≤ L.faults line.new) × (C.faults client.old ≤ C.faults client.new) }
+    ensures keeps { KeepsLink L.Meanings line.old line.new × KeepsLink C.Meanings client.old client.new }
 {
     match receive(room, line, plan.packet, plan.most, &mut course.received) {
         Ok(message) => drop_message(room, plan, course, message, client),
@@ -71,8 +70,7 @@ fn drop_message<C: Sink>(
     requires { IsOnCourse course.old }
     ensures dropped { IsDroppedMessage plan.now message course.old course.new (link_at C.Meanings client.old) (link_at C.Meanings client.new) result }
     ensures incoming { C.incoming client.new ≡ C.incoming client.old }
-    ensures beside { C.beside client.new ≡ C.beside client.old }
-    ensures no_fewer { C.faults client.old ≤ C.faults client.new }
+    ensures keeps { KeepsLink C.Meanings client.old client.new }
 {
     match message {
         Message::Chunk(bytes) => {

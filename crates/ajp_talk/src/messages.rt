@@ -1,8 +1,9 @@
 //! The next message from a link.
 
-ghost use Rattle.std.specs.Prelude.{◌≡◌, ◌<◌, ◌≤◌, IfOk, IfErr, length};
+ghost use Rattle.std.specs.Prelude.{◌≡◌, ◌<◌, IfOk, IfErr, length};
 ghost use Rattle.ajp_wire.specs.Moments.{link_at};
 ghost use Rattle.ajp_wire.specs.Packet.{count_of, read_into};
+ghost use Rattle.ajp_talk.specs.Moments.{KeepsLink};
 ghost use Rattle.ajp_talk.specs.Hearing.{undecoded as undecoded_as, unheard as unheard_as};
 ghost use Rattle.ajp_talk.specs.Turns.{IsHeard, IsUnheard};
 ghost use Rattle.ajp_wire.specs.declared.writing.TheConstants.{PAYLOAD_LIMIT};
@@ -26,8 +27,7 @@ pub(crate) fn receive<L: Link>(
 ) -> Result<Message, Unheard>
     ensures heard { IfOk result (IsHeard packet most (link_at L.Meanings line.old) (link_at L.Meanings line.new) count.old count.new) }
     ensures unheard { IfErr result (IsUnheard packet most (link_at L.Meanings line.old) (link_at L.Meanings line.new) count.old count.new) }
-    ensures beside { L.beside line.new ≡ L.beside line.old }
-    ensures no_fewer { L.faults line.old ≤ L.faults line.new }
+    ensures keeps { KeepsLink L.Meanings line.old line.new }
 {
     let answer = read_packet_into(line, true, packet, &mut room.payload);
     *count = count.saturating_add(bytes_read(&answer, room.payload.as_slice()));

@@ -2,6 +2,7 @@
 
 ghost use Rattle.std.specs.Prelude.{◌≡◌, ◌≤◌, length, IfOk};
 ghost use Rattle.ajp_wire.specs.Moments.{link_at};
+ghost use Rattle.ajp_talk.specs.Moments.{KeepsLink};
 ghost use Rattle.ajp_talk.specs.Owed.{first_packet as first_packet_of, request_of};
 ghost use Rattle.ajp_talk.specs.Turns.{IsSent};
 ghost use Rattle.ajp_wire.specs.declared.writing.TheConstants.{MAX_PIECE_BYTES};
@@ -21,8 +22,7 @@ pub(crate) fn send_request<L: Sink>(
 ) -> Result<(), IoError>
     requires { length plan.now.first ≤ MAX_PIECE_BYTES }
     ensures sent { IsSent (link_at L.Meanings line.old) (link_at L.Meanings line.new) sent.old sent.new (request_of plan.now) result }
-    ensures beside { L.beside line.new ≡ L.beside line.old }
-    ensures no_fewer { L.faults line.old ≤ L.faults line.new }
+    ensures keeps { KeepsLink L.Meanings line.old line.new }
 {
     if plan.first.is_empty() {
         return send(line, plan.forward.as_slice(), sent);

@@ -1,7 +1,8 @@
 //! One message of the container, and what it asks for.
 
-ghost use Rattle.std.specs.Prelude.{◌≡◌, ◌≤◌, None};
+ghost use Rattle.std.specs.Prelude.{◌≡◌, None};
 ghost use Rattle.http_front.specs.State.{failed_of};
+ghost use Rattle.ajp_talk.specs.Moments.{KeepsLink};
 ghost use Rattle.ajp_talk.specs.Ends.{IsPlan};
 ghost use Rattle.ajp_talk.specs.Turns.{IsCalmTurn, IsOnCourse, IsTurn};
 ghost use Rattle.ajp_talk.specs.Uploads.{IsSameUpload, talk_over};
@@ -31,8 +32,7 @@ pub(crate) fn step<L: Link, C: Link>(
     requires going { failed_of upload.old.body.now ≡ None }
     ensures turn { let at = talk_over L.Meanings C.Meanings in
         IsTurn plan.now (at line.old client.old upload.old) (at line.new client.new upload.new) course.old course.new result }
-    ensures beside { (L.beside line.new ≡ L.beside line.old) × (C.beside client.new ≡ C.beside client.old) }
-    ensures no_fewer { (L.faults line.old ≤ L.faults line.new) × (C.faults client.old ≤ C.faults client.new) }
+    ensures keeps { KeepsLink L.Meanings line.old line.new × KeepsLink C.Meanings client.old client.new }
     ensures calm { IsCalmTurn result → C.faults client.new ≡ C.faults client.old }
     ensures same { IsSameUpload upload.old upload.new }
 {

@@ -1,13 +1,13 @@
 //! `talk`: one try of a request on one link, from its first byte to its end.
 
-ghost use Rattle.std.specs.Prelude.{◌≡◌, ◌≤◌, ◌<◌, None, length};
+ghost use Rattle.std.specs.Prelude.{◌≡◌, ◌<◌, None, length};
 ghost use Rattle.http_front.specs.State.{failed_of, taken_of};
 ghost use Rattle.ajp_wire.specs.Moments.{link_at};
 ghost use Rattle.ajp_talk.specs.Complete.{Completes};
 ghost use Rattle.ajp_talk.specs.Courses.{BeginsCourse, fresh};
 ghost use Rattle.ajp_talk.specs.Drains.{IsLostCourse, IsLostEnd};
 ghost use Rattle.ajp_talk.specs.Ends.{IsPlan};
-ghost use Rattle.ajp_talk.specs.Moments.{talk_at};
+ghost use Rattle.ajp_talk.specs.Moments.{KeepsLink, talk_at};
 ghost use Rattle.ajp_talk.specs.Talk.{HoldsTalk};
 
 use crate::awaiting::await_on;
@@ -76,8 +76,7 @@ fn begin<L: Link>(
     requires plan { IsPlan plan.now }
     requires begun { course.old ≡ fresh plan.now 0 0 }
     ensures begins { BeginsCourse plan.now (link_at L.Meanings line.old) (link_at L.Meanings line.new) course.new result }
-    ensures beside { L.beside line.new ≡ L.beside line.old }
-    ensures no_fewer { L.faults line.old ≤ L.faults line.new }
+    ensures keeps { KeepsLink L.Meanings line.old line.new }
 {
     match greet(room, plan, line, &mut course.sent, &mut course.received) {
         Ok(()) => {}
@@ -111,8 +110,7 @@ fn lost<L: Link, C: Sink>(
     requires below { course.old.received < plan.now.most }
     ensures ended { IsLostEnd plan.now (link_at L.Meanings line.old) (link_at L.Meanings line.new) (link_at C.Meanings client.old) (link_at C.Meanings client.new) course.old course.new result }
     ensures incoming { C.incoming client.new ≡ C.incoming client.old }
-    ensures beside { (L.beside line.new ≡ L.beside line.old) × (C.beside client.new ≡ C.beside client.old) }
-    ensures no_fewer { (L.faults line.old ≤ L.faults line.new) × (C.faults client.old ≤ C.faults client.new) }
+    ensures keeps { KeepsLink L.Meanings line.old line.new × KeepsLink C.Meanings client.old client.new }
 {
     if plan.close_on_client {
         return course.gone(false, false);

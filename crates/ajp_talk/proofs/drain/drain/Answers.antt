@@ -23,10 +23,10 @@ loop-keep-preserved g c =
     record {
       draining = drained_on c.args.plan.now _ _ _ _ _ _ c.args.course.now c.loop-keep.course c.drop_next.new.course (Ok None) c.requires.plan i.draining dropped;
       incoming = c.drop_next.ensures.incoming ∙ i.incoming;
-      line_beside = c.drop_next.ensures.beside.0 ∙ i.line_beside;
-      client_beside = c.drop_next.ensures.beside.1 ∙ i.client_beside;
-      line_faults = omega (arith, c.drop_next.ensures.no_fewer.0, i.line_faults);
-      client_faults = omega (arith, c.drop_next.ensures.no_fewer.1, i.client_faults);
+      line_beside = c.drop_next.ensures.keeps.0.beside ∙ i.line_beside;
+      client_beside = c.drop_next.ensures.keeps.1.beside ∙ i.client_beside;
+      line_faults = omega (arith, c.drop_next.ensures.keeps.0.no_fewer, i.line_faults);
+      client_faults = omega (arith, c.drop_next.ensures.keeps.1.no_fewer, i.client_faults);
     }
 
 pub loop-keep-smaller : goal.loop-keep-smaller
@@ -44,3 +44,19 @@ returns-in-Ok-Some-clause-drained g c =
 pub returns-in-Err-clause-drained : goal.returns-in-Err-clause-drained
 returns-in-Err-clause-drained g c =
     drained_on c.args.plan.now _ _ _ _ _ _ c.args.course.now c.loop-keep.course c.drop_next.new.course (Err (record {})) c.requires.plan c.loop-keep.invariant.draining c.in-Err.ensures.dropped
+
+pub returns-in-Ok-Some-clause-keeps : goal.returns-in-Ok-Some-clause-keeps
+returns-in-Ok-Some-clause-keeps g c =
+    let i = c.loop-keep.invariant in
+    let k = c.drop_next.ensures.keeps in (
+      record { beside = k.0.beside ∙ i.line_beside; no_fewer = omega (arith, k.0.no_fewer, i.line_faults) },
+      record { beside = k.1.beside ∙ i.client_beside; no_fewer = omega (arith, k.1.no_fewer, i.client_faults) },
+    )
+
+pub returns-in-Err-clause-keeps : goal.returns-in-Err-clause-keeps
+returns-in-Err-clause-keeps g c =
+    let i = c.loop-keep.invariant in
+    let k = c.drop_next.ensures.keeps in (
+      record { beside = k.0.beside ∙ i.line_beside; no_fewer = omega (arith, k.0.no_fewer, i.line_faults) },
+      record { beside = k.1.beside ∙ i.client_beside; no_fewer = omega (arith, k.1.no_fewer, i.client_faults) },
+    )

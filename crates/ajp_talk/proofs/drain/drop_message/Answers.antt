@@ -7,3 +7,9 @@ returns-in-Chunk-clause-dropped g c =
 
 pub returns-in-End-clause-dropped : goal.returns-in-End-clause-dropped
 returns-in-End-clause-dropped g c = rw c.in-End.is (record {}, c.finish.result, c.rest_after-in-End.ensures, c.finish.ensures.turn)
+
+pub returns-in-Chunk-clause-keeps : goal.returns-in-Chunk-clause-keeps
+returns-in-Chunk-clause-keeps g c = record { beside = c.take_chunk-turn.ensures.same.2; no_fewer = c.take_chunk-turn.ensures.no_fewer }
+
+pub returns-in-End-clause-keeps : goal.returns-in-End-clause-keeps
+returns-in-End-clause-keeps g c = record { beside = c.finish.ensures.same.2; no_fewer = c.finish.ensures.no_fewer }

@@ -3,7 +3,7 @@ use Rattle.std.proofs.Common.{refl, ap, ◌∙◌, inl, inr}
 use Rattle.http_front.specs.Unread.{unread}
 use Rattle.ajp_wire.specs.Moments.{link_at}
 use Rattle.ajp_reply.specs.declared.message.Message.TheVariants.{Headers, Chunk, End, Ask, Pong}
-use Rattle.ajp_talk.proofs.SendingLaws.{no_fewer-same, no_fewer-then}
+use Rattle.ajp_talk.proofs.SendingLaws.{keeps-same, keeps-then}
 use Rattle.ajp_talk.proofs.stepping.step.Goals as goal
 
 pub returns-in-Ok-Headers-clause-turn : goal.returns-in-Ok-Headers-clause-turn
@@ -38,7 +38,7 @@ returns-in-Ok-Ask-clause-turn g c =
       mid = link_at g.L.Meanings c.receive.new.line;
       count = c.receive.new.count;
       heard = heard;
-      acts = (turn, refl, c.answer_ask.ensures.written, c.answer_ask.ensures.no_fewer.1);
+      acts = (turn, refl, c.answer_ask.ensures.written, c.answer_ask.ensures.keeps.1.no_fewer);
     })
 
 pub returns-in-Ok-End-clause-turn : goal.returns-in-Ok-End-clause-turn
@@ -69,57 +69,20 @@ returns-in-Err-clause-turn g c =
 
 -- ---- what each exit keeps
 
-pub returns-in-Ok-Headers-clause-beside : goal.returns-in-Ok-Headers-clause-beside
-returns-in-Ok-Headers-clause-beside g c = (c.receive.ensures.beside, refl)
-
-pub returns-in-Ok-Headers-clause-no_fewer : goal.returns-in-Ok-Headers-clause-no_fewer
-returns-in-Ok-Headers-clause-no_fewer g c = (c.receive.ensures.no_fewer, no_fewer-same _)
-
 pub returns-in-Ok-Headers-clause-same : goal.returns-in-Ok-Headers-clause-same
 returns-in-Ok-Headers-clause-same g c = (refl, refl)
-
-pub returns-in-Ok-Pong-clause-beside : goal.returns-in-Ok-Pong-clause-beside
-returns-in-Ok-Pong-clause-beside g c = (c.receive.ensures.beside, refl)
-
-pub returns-in-Ok-Pong-clause-no_fewer : goal.returns-in-Ok-Pong-clause-no_fewer
-returns-in-Ok-Pong-clause-no_fewer g c = (c.receive.ensures.no_fewer, no_fewer-same _)
 
 pub returns-in-Ok-Pong-clause-same : goal.returns-in-Ok-Pong-clause-same
 returns-in-Ok-Pong-clause-same g c = (refl, refl)
 
-pub returns-in-Err-clause-beside : goal.returns-in-Err-clause-beside
-returns-in-Err-clause-beside g c = (c.receive.ensures.beside, refl)
-
-pub returns-in-Err-clause-no_fewer : goal.returns-in-Err-clause-no_fewer
-returns-in-Err-clause-no_fewer g c = (c.receive.ensures.no_fewer, no_fewer-same _)
-
 pub returns-in-Err-clause-same : goal.returns-in-Err-clause-same
 returns-in-Err-clause-same g c = (refl, refl)
-
-pub returns-in-Ok-Chunk-clause-beside : goal.returns-in-Ok-Chunk-clause-beside
-returns-in-Ok-Chunk-clause-beside g c = (c.receive.ensures.beside, c.take_chunk-turn.ensures.same.2)
-
-pub returns-in-Ok-Chunk-clause-no_fewer : goal.returns-in-Ok-Chunk-clause-no_fewer
-returns-in-Ok-Chunk-clause-no_fewer g c = (c.receive.ensures.no_fewer, c.take_chunk-turn.ensures.no_fewer)
 
 pub returns-in-Ok-Chunk-clause-same : goal.returns-in-Ok-Chunk-clause-same
 returns-in-Ok-Chunk-clause-same g c = (refl, refl)
 
-pub returns-in-Ok-End-clause-beside : goal.returns-in-Ok-End-clause-beside
-returns-in-Ok-End-clause-beside g c = (c.receive.ensures.beside, c.finish.ensures.same.2)
-
-pub returns-in-Ok-End-clause-no_fewer : goal.returns-in-Ok-End-clause-no_fewer
-returns-in-Ok-End-clause-no_fewer g c = (c.receive.ensures.no_fewer, c.finish.ensures.no_fewer)
-
 pub returns-in-Ok-End-clause-same : goal.returns-in-Ok-End-clause-same
 returns-in-Ok-End-clause-same g c = (refl, refl)
-
-pub returns-in-Ok-Ask-clause-beside : goal.returns-in-Ok-Ask-clause-beside
-returns-in-Ok-Ask-clause-beside g c = (c.answer_ask.ensures.beside.0 ∙ c.receive.ensures.beside, c.answer_ask.ensures.beside.1)
-
-pub returns-in-Ok-Ask-clause-no_fewer : goal.returns-in-Ok-Ask-clause-no_fewer
-returns-in-Ok-Ask-clause-no_fewer g c =
-    (no_fewer-then _ _ _ c.receive.ensures.no_fewer c.answer_ask.ensures.no_fewer.0, c.answer_ask.ensures.no_fewer.1)
 
 pub returns-in-Ok-Ask-clause-same : goal.returns-in-Ok-Ask-clause-same
 returns-in-Ok-Ask-clause-same g c = c.answer_ask.ensures.same
@@ -143,3 +106,24 @@ returns-in-Ok-End-clause-calm g c = c.finish.ensures.calm
 
 pub returns-in-Ok-Ask-clause-calm : goal.returns-in-Ok-Ask-clause-calm
 returns-in-Ok-Ask-clause-calm g c = c.answer_ask.ensures.calm
+
+-- ---- what each exit keeps of the two links
+
+pub returns-in-Ok-Headers-clause-keeps : goal.returns-in-Ok-Headers-clause-keeps
+returns-in-Ok-Headers-clause-keeps g c = (c.receive.ensures.keeps, keeps-same g.C.Meanings c.args.client.now)
+
+pub returns-in-Ok-Pong-clause-keeps : goal.returns-in-Ok-Pong-clause-keeps
+returns-in-Ok-Pong-clause-keeps g c = (c.receive.ensures.keeps, keeps-same g.C.Meanings c.args.client.now)
+
+pub returns-in-Err-clause-keeps : goal.returns-in-Err-clause-keeps
+returns-in-Err-clause-keeps g c = (c.receive.ensures.keeps, keeps-same g.C.Meanings c.args.client.now)
+
+pub returns-in-Ok-Chunk-clause-keeps : goal.returns-in-Ok-Chunk-clause-keeps
+returns-in-Ok-Chunk-clause-keeps g c = (c.receive.ensures.keeps, record { beside = c.take_chunk-turn.ensures.same.2; no_fewer = c.take_chunk-turn.ensures.no_fewer })
+
+pub returns-in-Ok-End-clause-keeps : goal.returns-in-Ok-End-clause-keeps
+returns-in-Ok-End-clause-keeps g c = (c.receive.ensures.keeps, record { beside = c.finish.ensures.same.2; no_fewer = c.finish.ensures.no_fewer })
+
+pub returns-in-Ok-Ask-clause-keeps : goal.returns-in-Ok-Ask-clause-keeps
+returns-in-Ok-Ask-clause-keeps g c =
+    (keeps-then g.L.Meanings c.args.line.now c.receive.new.line c.answer_ask.new.line c.receive.ensures.keeps c.answer_ask.ensures.keeps.0, c.answer_ask.ensures.keeps.1)

@@ -27,7 +27,7 @@ returns-in-Err-Failed-clause-begins g c =
     let e = rw c.in-Err-Failed.field-0-is at c.in-Err-Failed.ensures.sent in
     rw c.failed.ensures
     (begins_failed c.args.plan.now _ _ _ _ c.greet.new.sent c.send_request.new.sent c.greet.new.received e.0 c.len.result c.requires.plan c.len.ensures
-    (fresh-counts c.args.plan.now c.args.course.now c.send_request.new.sent c.greet.new.received c.requires.begun) c.in-Ok.ensures.greeting c.greet.ensures.no_fewer e.1 e.2 e.3)
+    (fresh-counts c.args.plan.now c.args.course.now c.send_request.new.sent c.greet.new.received c.requires.begun) c.in-Ok.ensures.greeting c.greet.ensures.keeps.no_fewer e.1 e.2 e.3)
 
 pub returns-in-Err-NoMemory-clause-begins : goal.returns-in-Err-NoMemory-clause-begins
 returns-in-Err-NoMemory-clause-begins g c =

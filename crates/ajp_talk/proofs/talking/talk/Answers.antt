@@ -11,7 +11,7 @@ use Rattle.ajp_talk.proofs.talking.talk.Goals as goal
 pub returns-in-Some-clause-talk : goal.returns-in-Some-clause-talk
 returns-in-Some-clause-talk g c = record {
   talk = c.in-Some.ensures.begins _ _ c.requires.first c.requires.going;
-  line = c.begin.ensures.no_fewer;
+  line = c.begin.ensures.keeps.no_fewer;
   client = omega arith;
   calm = λ calm. refl;
 }
@@ -21,9 +21,9 @@ returns-in-Some-clause-talk g c = record {
 pub loop-room-init : goal.loop-room-init
 loop-room-init g c = record {
   stands = c.in-None.ensures.begins _ _ c.requires.first c.requires.going;
-  line_beside = c.begin.ensures.beside;
+  line_beside = c.begin.ensures.keeps.beside;
   client_beside = refl;
-  line_faults = c.begin.ensures.no_fewer;
+  line_faults = c.begin.ensures.keeps.no_fewer;
   client_faults = refl;
   same = (refl, refl);
 }
@@ -33,9 +33,9 @@ loop-room-preserved g c =
     let i = c.loop-room.invariant in
     record {
       stands = on c.args.plan.now _ _ _ c.loop-room.course c.step.new.course i.stands c.requires.plan c.in-On.ensures.turn;
-      line_beside = c.step.ensures.beside.0 ∙ i.line_beside;
-      client_beside = c.step.ensures.beside.1 ∙ i.client_beside;
-      line_faults = omega (arith, c.step.ensures.no_fewer.0, i.line_faults);
+      line_beside = c.step.ensures.keeps.0.beside ∙ i.line_beside;
+      client_beside = c.step.ensures.keeps.1.beside ∙ i.client_beside;
+      line_faults = omega (arith, c.step.ensures.keeps.0.no_fewer, i.line_faults);
       client_faults = c.in-On.ensures.calm tt ∙ i.client_faults;
       same = (c.step.ensures.same.0 ∙ i.same.0, c.step.ensures.same.1 ∙ i.same.1);
     }
@@ -69,9 +69,9 @@ returns-in-Lost-clause-talk g c =
     (record {
       talk = lost_talk c.args.plan.now _ _ _ c.step.new.course c.lost.new.course c.lost.result c.requires.plan
           (lost c.args.plan.now _ _ _ c.loop-room.course c.step.new.course i.stands c.requires.plan (omega (arith, i.client_faults)) c.in-Lost.ensures.turn)
-          (untaken-same _ _ (record { body = refl; unread = ap (unread c.step.new.upload.inbox.now) c.lost.ensures.incoming })) c.lost.ensures.no_fewer.1 c.lost.ensures.ended;
-      line = omega (arith, c.lost.ensures.no_fewer.0, c.step.ensures.no_fewer.0, i.line_faults);
-      client = omega (arith, c.lost.ensures.no_fewer.1, c.step.ensures.no_fewer.1, i.client_faults);
+          (untaken-same _ _ (record { body = refl; unread = ap (unread c.step.new.upload.inbox.now) c.lost.ensures.incoming })) c.lost.ensures.keeps.1.no_fewer c.lost.ensures.ended;
+      line = omega (arith, c.lost.ensures.keeps.0.no_fewer, c.step.ensures.keeps.0.no_fewer, i.line_faults);
+      client = omega (arith, c.lost.ensures.keeps.1.no_fewer, c.step.ensures.keeps.1.no_fewer, i.client_faults);
       calm = λ calm. absurd (lost_calm c.args.plan.now _ _ _ _ c.step.new.course c.lost.new.course c.lost.result c.lost.ensures.ended calm);
     })
 
@@ -94,8 +94,8 @@ returns-in_default-clause-talk g c =
       talk = rw c.ended.ensures
           (ended_talk c.args.plan.now _ _ _ c.loop-room.course c.step.new.course (record {}) c.taken.result c.step.result i.stands c.requires.plan c.requires.first
           i.line_faults (omega (arith, i.client_faults)) c.taken.ensures c.in_default.not-On c.in_default.not-Lost c.step.ensures.turn);
-      line = omega (arith, c.step.ensures.no_fewer.0, i.line_faults);
-      client = omega (arith, c.step.ensures.no_fewer.1, i.client_faults);
+      line = omega (arith, c.step.ensures.keeps.0.no_fewer, i.line_faults);
+      client = omega (arith, c.step.ensures.keeps.1.no_fewer, i.client_faults);
       calm = λ calm. c.step.ensures.calm (calm_turn (record {}) c.args.plan.now c.step.new.course c.taken.result c.step.result c.in_default.not-Lost (rw c.ended.ensures at calm)) ∙ i.client_faults;
     })
 
@@ -105,4 +105,14 @@ returns-in_default-clause-complete g c = λ all w. completed _ _ _ all w _ (retu
 pub returns-in_default-clause-beside : goal.returns-in_default-clause-beside
 returns-in_default-clause-beside g c =
     let i = c.loop-room.invariant in
-    (c.step.ensures.beside.0 ∙ i.line_beside, c.step.ensures.beside.1 ∙ i.client_beside)
+    (c.step.ensures.keeps.0.beside ∙ i.line_beside, c.step.ensures.keeps.1.beside ∙ i.client_beside)
+
+pub returns-in-Some-clause-beside : goal.returns-in-Some-clause-beside
+returns-in-Some-clause-beside g c = (c.begin.ensures.keeps.beside, refl)
+
+pub returns-in-Lost-clause-beside : goal.returns-in-Lost-clause-beside
+returns-in-Lost-clause-beside g c =
+    let i = c.loop-room.invariant in
+    let s = c.step.ensures.keeps in
+    let l = c.lost.ensures.keeps in
+    (l.0.beside ∙ s.0.beside ∙ i.line_beside, l.1.beside ∙ s.1.beside ∙ i.client_beside)
