@@ -74,7 +74,7 @@ returns g c =
     let begun = subst (λ (s : PooledState _ _ _). BeginFacts (λ before link after. g.D.Dial.gives before c.args.asked.now.host.now c.args.asked.now.port link after) g.D.Dial.faults c.args.asked.now s.dial (g.T.Tape.talks s.tape) s.faults c.dial-answer.new.self (sight_of g.T.Tape.talks g.T.Tape.begun g.T.Tape.sent g.T.Tape.received c.begin_dialled-begun.new.tape) c.begin_dialled-begun.new.lent c.counted.new.failed c.begin_dialled-begun.result) c.self.view_is
     (dialled_facts _ _ _ _ _ _ _ _ _ _ _ c.dial-answer.result _ c.begin_idle.ensures.same e.new_link e.began e.refused
     (on_err_weaker {P = (c.begin_dialled-begun.new.lent ≡ None) × g.T.Tape.is_idle c.begin_dialled-begun.new.tape} {Q = c.begin_dialled-begun.new.lent ≡ None} c.begin_dialled-begun.result (λ x. x.0) e.idle) e.given e.fails d.gave d.clean d.cause
-    (rw n.same at n.cause) (rw n.same at n.steady) (rw n.same at n.wanted)) in
+    (rw n.same at n.cause) (rw n.same at n.steady) (rw n.same at n.cause.wanted)) in
     let f = subst (λ (r : Result Bool IoError). BeginFacts (λ before link after. g.D.Dial.gives before c.args.asked.now.host.now c.args.asked.now.port link after) g.D.Dial.faults c.args.asked.now c.args.self.now.dial (g.T.Tape.talks c.args.self.now.tape) c.args.self.now.faults c.dial-answer.new.self (sight_of g.T.Tape.talks g.T.Tape.begun g.T.Tape.sent g.T.Tape.received c.begin_dialled-begun.new.tape) c.begin_dialled-begun.new.lent c.counted.new.failed r) (sym n.same) begun in
     record {
       runs = f.runs;
