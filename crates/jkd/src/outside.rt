@@ -18,6 +18,7 @@ use jk_io::{Bytes, Door, Files, Sink, Source};
 use real_io::{RealFiles, StdIn, StdOut};
 use remarks::{CountedInput, Ended, KeptFiles, command_asked};
 use site_reports::SiteFound;
+use std::alloc::Global;
 use std::io::{Input, Write};
 use std::net::Net;
 use std::rt::Files as SystemFiles;
@@ -74,6 +75,26 @@ fn told_site(found: Option<SiteFound>, ahead: Option<SiteFound>) -> Option<SiteF
     ahead
 }
 
+/// Tells a person of a command that ended, and of the site that it judged.
+fn tell_of_site<E: Write + Drop>(
+    alloc: Global,
+    err: E,
+    ended: &Ended<'_>,
+    site: Option<SiteFound>,
+) {
+    let site = site.as_ref();
+    let ended = Ended {
+        command: ended.command,
+        words: ended.words,
+        status: ended.status,
+        reads: ended.reads,
+        input: ended.input,
+        site,
+        reason: ended.reason,
+    };
+    tell(alloc, err, &ended);
+}
+
 /// Does the command in this world, over the system's files and streams, of which some were read ahead. Tells a person of it, and
 /// answers its status.
 pub(crate) fn do_outside<
@@ -113,10 +134,12 @@ where
             status,
             reads: files.reads(),
             input: input.seen(),
-            site: site.as_ref(),
+            site: None,
             reason: reason.as_bytes(),
         };
-        tell(rt.alloc(), err, &ended);
+        tell_of_site(rt.alloc(), err, &ended, site);
+    } else {
+        let_go(site);
     }
     let_go(files);
     status

@@ -58,13 +58,14 @@ fn over_input<F: Files + Drop, S: Source + Drop>(
     out: &mut RowText,
 ) -> Result<(), NoMemory> {
     let PlainRun { end, site } = do_words(alloc, words, files, input, &mut empty_link(alloc));
+    let site = site.as_ref();
     let ended = Ended {
         command: command_of(words),
         words,
         status: end.status(),
         reads: files.reads(),
         input: input.seen(),
-        site: site.as_ref(),
+        site,
         reason: REASON,
     };
     put_remarks(alloc, &ended, out)
