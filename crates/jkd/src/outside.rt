@@ -18,7 +18,6 @@ use jk_io::{Bytes, Door, Files, Sink, Source};
 use real_io::{RealFiles, StdIn, StdOut};
 use remarks::{CountedInput, Ended, KeptFiles, command_asked};
 use site_reports::SiteFound;
-use std::alloc::Global;
 use std::io::{Input, Write};
 use std::net::Net;
 use std::rt::Files as SystemFiles;
@@ -75,26 +74,6 @@ fn told_site(found: Option<SiteFound>, ahead: Option<SiteFound>) -> Option<SiteF
     ahead
 }
 
-/// Tells a person of a command that ended, and of the site that it judged.
-fn tell_of_site<E: Write + Drop>(
-    alloc: Global,
-    err: E,
-    ended: &Ended<'_>,
-    site: Option<SiteFound>,
-) {
-    let site = site.as_ref();
-    let ended = Ended {
-        command: ended.command,
-        words: ended.words,
-        status: ended.status,
-        reads: ended.reads,
-        input: ended.input,
-        site,
-        reason: ended.reason,
-    };
-    tell(alloc, err, &ended);
-}
-
 /// Does the command in this world, over the system's files and streams, of which some were read ahead. Tells a person of it, and
 /// answers its status.
 pub(crate) fn do_outside<
@@ -127,6 +106,7 @@ where
     let OrderEnd { end, site, status } = do_in(rt, asked, &mut files, &mut input, &mut out, world);
     let_go(end);
     let site = told_site(site, refused);
+    let found = site.as_ref();
     if let Ok(reason) = reason(rt, asked, files.reads()) {
         let ended = Ended {
             command: command_asked(asked),
@@ -134,12 +114,10 @@ where
             status,
             reads: files.reads(),
             input: input.seen(),
-            site: None,
+            site: found,
             reason: reason.as_bytes(),
         };
-        tell_of_site(rt.alloc(), err, &ended, site);
-    } else {
-        let_go(site);
+        tell(rt.alloc(), err, &ended);
     }
     let_go(files);
     status
