@@ -12,12 +12,13 @@ use crate::effects::ReadAhead;
 use crate::telling::{asks_stop, reason, tell};
 use gear_parts::ToldWorld;
 use gear_worlds::{Trouble, World};
-use jk_cli::{Order, WordsError};
+use jk_cli::{CommandName, Order, WordsError};
 use jk_commands::{EndOf, JkdEnd, let_go, run_jkd};
 use jk_io::{Bytes, Door, Files, Sink, Source};
 use real_io::{RealFiles, StdIn, StdOut};
-use remarks::{CountedInput, Ended, KeptFiles, command_asked};
+use remarks::{CountedInput, Ended, InputSeen, KeptFiles, ReadFile, command_asked};
 use site_reports::SiteFound;
+use std::alloc::Global;
 use std::io::{Input, Write};
 use std::net::Net;
 use std::rt::Files as SystemFiles;
@@ -74,6 +75,37 @@ fn told_site(found: Option<SiteFound>, ahead: Option<SiteFound>) -> Option<SiteF
     ahead
 }
 
+/// How a command ended: the word that names it, its status, what it read of the input, and the site that it judged.
+#[derive(Drop)]
+struct CommandEnded {
+    command: Option<CommandName>,
+    status: u8,
+    input: InputSeen,
+    site: Option<SiteFound>,
+}
+
+/// Tells a person of a command that ended.
+fn tell_ended<'x, E: Write + Drop>(
+    alloc: Global,
+    err: E,
+    words: &'x [Bytes],
+    reads: &'x [ReadFile],
+    reason: &'x [u8],
+    how: &'x CommandEnded,
+) {
+    let site = how.site.as_ref();
+    let ended = Ended {
+        command: how.command,
+        words,
+        status: how.status,
+        reads,
+        input: how.input,
+        site,
+        reason,
+    };
+    tell(alloc, err, &ended);
+}
+
 /// Does the command in this world, over the system's files and streams, of which some were read ahead. Tells a person of it, and
 /// answers its status.
 pub(crate) fn do_outside<
@@ -105,20 +137,23 @@ where
     let mut out = StdOut::new(rt);
     let OrderEnd { end, site, status } = do_in(rt, asked, &mut files, &mut input, &mut out, world);
     let_go(end);
-    let site = told_site(site, refused);
-    let found = site.as_ref();
+    let how = CommandEnded {
+        command: command_asked(asked),
+        status,
+        input: input.seen(),
+        site: told_site(site, refused),
+    };
     if let Ok(reason) = reason(rt, asked, files.reads()) {
-        let ended = Ended {
-            command: command_asked(asked),
+        tell_ended(
+            rt.alloc(),
+            err,
             words,
-            status,
-            reads: files.reads(),
-            input: input.seen(),
-            site: found,
-            reason: reason.as_bytes(),
-        };
-        tell(rt.alloc(), err, &ended);
+            files.reads(),
+            reason.as_bytes(),
+            &how,
+        );
     }
+    let_go(how);
     let_go(files);
     status
 }
