@@ -1,7 +1,7 @@
 //! A client whose bytes never end.
 ghost use Rattle.std.specs.Prelude.{◌≡◌, length, min};
 
-use jk_io::{IoError, Link, Meanings, Sink, Source};
+use jk_io::{Awaited, IoError, Link, Meanings, Sink, Source};
 
 /// How many bytes one write takes at most.
 const TAKEN_AT_ONCE: usize = 16_384;
@@ -69,4 +69,6 @@ impl<'a> Sink for Feed<'a> {
     }
 }
 
-impl<'a> Link for Feed<'a> {}
+impl<'a> Link for Feed<'a> {
+    fn await_next(&mut self, _what: Awaited) {}
+}

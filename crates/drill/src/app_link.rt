@@ -3,7 +3,7 @@ ghost use Rattle.std.specs.Prelude.{◌≡◌, ◌<◌, ◌≤◌, ◌++◌, [],
 
 use crate::wire::{Wire, copy_front};
 use ajp_container::{AppConfig, ContainerEnd, serve_ajp};
-use jk_io::{Bytes, IoError, Link, Meanings, NoMemory, Sink, Source};
+use jk_io::{Awaited, Bytes, IoError, Link, Meanings, NoMemory, Sink, Source};
 use std::alloc::Global;
 use std::marker::Model;
 
@@ -123,4 +123,6 @@ impl<'a> Link for AppLink<'a> {
 
     // what it has to give is at hand
     ghost may_wait = { false };
+
+    fn await_next(&mut self, _what: Awaited) {}
 }

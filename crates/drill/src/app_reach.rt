@@ -4,7 +4,7 @@ ghost use Rattle.jk_io.specs.Told.{Rose};
 
 use crate::app_link::AppLink;
 use ajp_container::AppConfig;
-use jk_io::{Beside, IoError, Link, Meanings, NoMemory, Reach, Sink, Source, TalkAsked};
+use jk_io::{Awaited, Beside, IoError, Link, Meanings, NoMemory, Reach, Sink, Source, TalkAsked};
 use site_config::Config;
 use std::alloc::Global;
 use std::marker::Model;
@@ -95,7 +95,9 @@ impl<'a> Sink for AppReach<'a> {
     }
 }
 
-impl<'a> Link for AppReach<'a> {}
+impl<'a> Link for AppReach<'a> {
+    fn await_next(&mut self, _what: Awaited) {}
+}
 
 impl<'a> Reach for AppReach<'a> {
     ghost use Rattle.std.specs.Prelude.{refl};

@@ -2,7 +2,7 @@
 ghost use Rattle.std.specs.Prelude.{◌≡◌, ◌++◌, [], length, take, min, OnOk, OnErr};
 ghost use Rattle.drill.specs.Wires.{wire};
 
-use jk_io::{Bytes, IoError, Link, Meanings, NoMemory, Sink, Source};
+use jk_io::{Awaited, Bytes, IoError, Link, Meanings, NoMemory, Sink, Source};
 use std::alloc::Global;
 use std::marker::Model;
 
@@ -119,4 +119,6 @@ impl Link for Wire {
 
     // what it has to give is at hand
     ghost may_wait = { false };
+
+    fn await_next(&mut self, _what: Awaited) {}
 }

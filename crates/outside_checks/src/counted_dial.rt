@@ -28,4 +28,6 @@ impl Dial for CountedDial {
         self.asked = self.asked.saturating_add(1);
         self.dial.dial(alloc, host, port)
     }
+
+    fn await_dial(&mut self, _millis: u64, _keepalive: bool) {}
 }

@@ -54,6 +54,8 @@ impl<L: Link + Drop + Send> Dial for OneDial<L> {
     fn dial(&mut self, _alloc: Global, _host: &Bytes, _port: u16) -> Result<L, IoError> {
         self.link.take().ok_or(IoError::NoMemory)
     }
+
+    fn await_dial(&mut self, _millis: u64, _keepalive: bool) {}
 }
 
 /// The links of a worker: its client's, and the one to its member.

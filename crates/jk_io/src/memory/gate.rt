@@ -3,7 +3,7 @@ ghost use Rattle.std.specs.Prelude.{◌≡◌, ◌<◌, false};
 ghost use Rattle.jk_io.specs.declared.memory.gate.TheConstants.{GATE_PLACES};
 
 use crate::failures::IoError;
-use crate::traits::streams::{Link, Meanings, Sink, Source};
+use crate::traits::streams::{Awaited, Link, Meanings, Sink, Source};
 use std::sync::{Mutex, Wait};
 use std::thread;
 use std::time::{Clock, Duration};
@@ -148,6 +148,12 @@ impl<'g, 'r, L: Link + Drop, R: Wait + Clock> Link for GateLink<'g, 'r, L, R> {
     ghost may_wait = { L.may_wait };
 
     ghost found_quiet = { λ before after. L.found_quiet before.link after.link };
+
+    ghost heard = { λ before what after. L.heard before.link what after.link };
+
+    fn await_next(&mut self, what: Awaited) {
+        self.link.await_next(what);
+    }
 
     fn is_quiet(&mut self) -> bool {
         self.link.is_quiet()

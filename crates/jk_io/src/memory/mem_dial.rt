@@ -80,6 +80,8 @@ impl Dial for MemDial {
         }
         Ok(take_next(&mut self.links, alloc))
     }
+
+    fn await_dial(&mut self, _millis: u64, _keepalive: bool) {}
 }
 
 // Takes out the next link, or an empty one after the last; the links stand in reverse.

@@ -8,7 +8,7 @@ use crate::failures::{IoError, NoMemory};
 use crate::list_of::NumberList;
 use crate::memory::call_count::CallCount;
 use crate::memory::link_plan::{LinkPlan, is_due, up_to_next};
-use crate::traits::streams::{Link, Meanings, Sink, Source};
+use crate::traits::streams::{Awaited, Link, Meanings, Sink, Source};
 use std::alloc::Global;
 use std::marker::Model;
 
@@ -318,6 +318,8 @@ impl Link for MemLink {
     ghost use Rattle.std.specs.Prelude.{false};
 
     ghost may_wait = { false };
+
+    fn await_next(&mut self, _what: Awaited) {}
 
     /// What it has to come is what a talk is answered with, so it always is.
     fn is_quiet(&mut self) -> bool

@@ -16,7 +16,7 @@ use crate::memory::member_link::MemberLink;
 use crate::memory::talk_book::TalkBook;
 use crate::reaching::{Begun, Beside, Talk, TalkAsked};
 use crate::traits::reach::Reach;
-use crate::traits::streams::{Link, Meanings, Sink, Source};
+use crate::traits::streams::{Awaited, Link, Meanings, Sink, Source};
 use std::alloc::Global;
 use std::marker::Model;
 use std::mem;
@@ -479,6 +479,8 @@ impl Link for MemReach {
     ghost use Rattle.std.specs.Prelude.{false};
 
     ghost may_wait = { false };
+
+    fn await_next(&mut self, _what: Awaited) {}
 }
 
 impl Reach for MemReach {

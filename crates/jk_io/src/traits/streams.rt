@@ -97,11 +97,17 @@ pub enum Awaited {
 
 /// A stream both ways, such as one end of a connection.
 pub trait Link: Source + Sink {
+    ghost use Rattle.std.specs.Prelude.{◌≡◌, true, Bool};
+    ghost use Rattle.jk_io.specs.declared.traits.streams.Awaited.{Awaited};
+
     // a read may ever wait; where it is false none does
     ghost may_wait: { Bool } = { true };
 
     // a look at the first found it quiet, and left the second; where it isn't told, each may be so
     ghost found_quiet: { Self → Self → Type 0 } = { λ _ _. Unit {0} };
+
+    // the first was told what is awaited, and became the last; where it isn't told, each may be so
+    ghost heard: { Self → Awaited → Self → Type 0 } = { λ _ _ _. Unit {0} };
 
     /// Whether the next read would wait, as far as can be seen without waiting. A link in memory has all its bytes at
     /// hand, and says no.
@@ -114,12 +120,12 @@ pub trait Link: Source + Sink {
         false
     }
 
-    /// Is told what is waited for next. A read, a write or a dial that then waits longer fails.
-    fn await_next(&mut self, _what: Awaited)
+    /// Is told what is waited for next. A read, a write or a dial that then waits longer fails. In memory nothing waits.
+    fn await_next(&mut self, what: Awaited)
+        ensures heard { Self.heard self.old what self.new }
         ensures same_bytes { (Self.incoming self.new ≡ Self.incoming self.old) × (Self.received self.new ≡ Self.received self.old)
             × (Self.sent self.new ≡ Self.sent self.old) }
-        ensures same { (Self.beside self.new ≡ Self.beside self.old) × (Self.faults self.new ≡ Self.faults self.old) }
-    {}
+        ensures same { (Self.beside self.new ≡ Self.beside self.old) × (Self.faults self.new ≡ Self.faults self.old) };
 
     /// Whether no byte is there to read and the other end didn't close, as far as can be seen without waiting. A link
     /// that isn't quiet serves no other talk; one that can't be looked at says that it isn't.

@@ -1,5 +1,5 @@
 //! Files, a clock, what dials and what accepts.
-ghost use Rattle.std.specs.Prelude.{◌≡◌, ◌≢◌, ℕ, ◌+◌, ◌<◌, ◌≤◌, List, [], ◌∷◌, Option, Some, None, IfSome, IfNone, IsSomeAnd, IfOk, IsOk, OnErr, IsErrOf, length};
+ghost use Rattle.std.specs.Prelude.{◌≡◌, ◌≢◌, ℕ, Bool, ◌+◌, ◌<◌, ◌≤◌, List, [], ◌∷◌, Option, Some, None, IfSome, IfNone, IsSomeAnd, IfOk, IsOk, OnErr, IsErrOf, length};
 ghost use Rattle.jk_io.specs.Told.{appended, prepended, IsEmpty, Rose, HasCause};
 ghost use Rattle.jk_io.specs.Answers.{Answers};
 ghost use Rattle.jk_io.specs.Stored.{content_of};
@@ -52,6 +52,9 @@ pub trait Dial {
     // before, the host and port of a dial, the link that it gave, and after; where it isn't told, each may be so
     ghost gives: { Self → List ℕ → ℕ → Self.L → Self → Type 0 } = { λ _ _ _ _ _. Unit {0} };
 
+    // the first was told what its next dials await, and became the last; where it isn't told, each may be so
+    ghost heard: { Self → ℕ → Bool → Self → Type 0 } = { λ _ _ _ _. Unit {0} };
+
     fn dial(&mut self, alloc: Global, host: &Bytes, port: u16) -> Result<Self::L, IoError>
         ensures gave { IfOk result (λ link. gives self.old host.now port link self.new) }
         ensures clean { IsOk result → faults self.new ≡ faults self.old }
@@ -59,9 +62,9 @@ pub trait Dial {
 
     /// Is told after how many milliseconds the next dials fail, where 0 is without limit, and whether the system is to see
     /// whether the other ends of their links are still there. In memory nothing waits.
-    fn await_dial(&mut self, _millis: u64, _keepalive: bool)
-        ensures { faults self.new ≡ faults self.old }
-    {}
+    fn await_dial(&mut self, millis: u64, keepalive: bool)
+        ensures heard { heard self.old millis keepalive self.new }
+        ensures same { faults self.new ≡ faults self.old };
 
     /// Is told that a link, which another worker's dial may have made, serves this dial's worker from now on. Only the
     /// real thing has a use for it.

@@ -4,8 +4,8 @@ ghost use Rattle.plain_commands.specs.DryLinks.{reply_link};
 ghost use Rattle.plain_commands.specs.DryReaches.{IsOverLinks};
 
 use jk_io::{
-    Beside, Bytes, IoError, Link, ListOf, Meanings, MemLink, MemReach, NoMemory, NumberList, Reach,
-    Sink, Source, Talk, TalkAsked,
+    Awaited, Beside, Bytes, IoError, Link, ListOf, Meanings, MemLink, MemReach, NoMemory,
+    NumberList, Reach, Sink, Source, Talk, TalkAsked,
 };
 use std::alloc::Global;
 use std::marker::{Brand, Model, PhantomData};
@@ -126,7 +126,9 @@ impl<N: ReplyName> Sink for OneReply<N> {
     }
 }
 
-impl<N: ReplyName> Link for OneReply<N> {}
+impl<N: ReplyName> Link for OneReply<N> {
+    fn await_next(&mut self, _what: Awaited) {}
+}
 
 impl<N: ReplyName> Reach for OneReply<N> {
     ghost use Rattle.std.specs.Prelude.{refl};
