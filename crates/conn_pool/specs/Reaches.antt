@@ -3,6 +3,8 @@ use Rattle.std.specs.Prelude.{◌≡◌, ℕ, ◌<◌, ◌≤◌, List, length, 
 use Rattle.jk_io.specs.Told.{appended, prepended, IsEmpty, HasCause}
 use Rattle.jk_io.specs.Moments.{Moment}
 use Rattle.jk_io.specs.Talks.{begun_with}
+use Rattle.jk_io.specs.declared.traits.streams.Awaited.{Awaited}
+use Rattle.jk_io.specs.declared.traits.streams.Awaited.TheVariants as awaited
 use Rattle.jk_io.specs.declared.failures.IoError.{IoError}
 use Rattle.jk_io.specs.declared.failures.IoError.TheVariants.{Failed}
 use Rattle.jk_io.specs.declared.reaching.Begun.{Begun}
@@ -65,6 +67,15 @@ pub record FlushesLink {L : Type 0} (before after : LentState L) (result : Resul
   pub ok : OnOk result (after ≡ before)
   pub refused : OnErr result (after.faulty ≡ true)
   pub cause : HasCause before.link.faults after.link.faults result
+
+-- a link that shows what the talk's link shows was told what is awaited
+abbrev pub HearsLink : {L : Type 0} → (moment_of : L → Moment) → (heard : L → Awaited → L → Type 0) → LentState L → Awaited → Type 0
+HearsLink moment_of heard lent what = (before : _) × (after : _) × heard before what after × (moment_of before ≡ lent.link) × (moment_of after ≡ lent.link)
+
+-- the dial was told what its next links await; else it stayed
+abbrev pub HearsDial : {D : Type 0} → (heard : D → ℕ → Bool → D → Type 0) → D → Awaited → D → Type 0
+HearsDial heard before (awaited.Link millis keepalive) after = heard before millis keepalive after
+HearsDial heard before other after = after ≡ before
 
 -- a call within a talk: the link stays whose it is, and is marked where the call failed
 pub record StaysLent {L : Type 0} (before after : LentState L) (result : Result ℕ IoError) : Type 0 where

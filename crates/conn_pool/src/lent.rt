@@ -1,7 +1,7 @@
 //! The link of a running talk. It tells its balancer and member.
 ghost use Rattle.std.specs.Prelude.{◌≡◌, ◌<◌, ◌≤◌, true, false, None, IsSome, IfOk, IfSome, length};
 ghost use Rattle.jk_io.specs.Moments.{moment};
-ghost use Rattle.conn_pool.specs.Reaches.{FlushesLink, MarksRefusal, ReadsLink, WritesLink};
+ghost use Rattle.conn_pool.specs.Reaches.{FlushesLink, HearsLink, MarksRefusal, ReadsLink, WritesLink};
 
 use crate::idle::Idle;
 use jk_io::{Awaited, IoError, Link};
@@ -123,23 +123,11 @@ impl<L: Link + Drop> Lent<L> {
         answer
     }
 
-    pub(crate) fn waits(&mut self) -> bool
-        ensures said { result ≡ true → L.may_wait ≡ true }
+    pub(crate) fn await_next(&mut self, what: Awaited)
+        ensures told { HearsLink (moment L.incoming L.received L.sent L.faults) L.heard self.old what }
         ensures same { self.new ≡ self.old }
     {
-        self.link.waits()
-    }
-
-    pub(crate) fn await_next(&mut self, what: Awaited)
-        ensures { self.new ≡ self.old }
-    {
         self.link.await_next(what);
-    }
-
-    pub(crate) fn is_quiet(&mut self) -> bool
-        ensures { self.new ≡ self.old }
-    {
-        self.link.is_quiet()
     }
 
     /// Ends the loan. The link comes out exactly where it is to be kept and none of its calls was refused, so a link

@@ -116,9 +116,13 @@ impl<'r, R: Net<Stream = TcpStream>> TcpDial<'r, R> {
 }
 
 impl<'r, R: Net<Stream = TcpStream>> Dial for TcpDial<'r, R> {
+    ghost use Rattle.std.specs.Prelude.{◌≡◌};
+
     type L = TcpLink;
 
     ghost faults = { λ d. d.failed };
+
+    ghost heard = { λ _ millis keepalive after. (after.millis ≡ millis) × (after.keepalive ≡ keepalive) };
 
     fn dial(&mut self, alloc: Global, host: &Bytes, port: u16) -> Result<TcpLink, IoError> {
         if let Some(outbox) = &self.first {
