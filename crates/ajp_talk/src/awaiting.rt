@@ -7,6 +7,7 @@ use jk_io::{Awaited, Link};
 
 /// Tells a link what is waited for next on it. What it tells of itself stays.
 pub(crate) fn await_on<L: Link>(line: &mut L, what: Awaited)
+    ensures heard { L.heard line.old what line.new }
     ensures same { link_at L.Meanings line.new ≡ link_at L.Meanings line.old }
     ensures beside { L.beside line.new ≡ L.beside line.old }
 {

@@ -59,6 +59,9 @@ pub(crate) fn answer_ask<L: Link, C: Link>(
     ensures keeps { KeepsLink L.Meanings line.old line.new × KeepsLink C.Meanings client.old client.new }
     ensures calm { IsCalmTurn result → C.faults client.new ≡ C.faults client.old }
     ensures same { IsSameUpload upload.old upload.new }
+
+    // Before it is read, the client is told that more of a body is waited for.
+    ensures awaits { (after : C) × C.heard client.old Awaited.Body after }
 {
     await_on(client, Awaited::Body);
     match upload.body.take(alloc, upload.inbox, client, n) {

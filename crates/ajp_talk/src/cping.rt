@@ -1,6 +1,6 @@
 //! CPing, and CPong that must answer it.
 
-ghost use Rattle.std.specs.Prelude.{◌≡◌, ◌<◌};
+ghost use Rattle.std.specs.Prelude.{◌≡◌, ◌<◌, true, IsOk};
 ghost use Rattle.ajp_wire.specs.Moments.{link_at};
 ghost use Rattle.ajp_talk.specs.Moments.{KeepsLink};
 ghost use Rattle.ajp_talk.specs.Turns.{IsGreeting, pong_only as pong_only_of};
@@ -30,6 +30,10 @@ pub(crate) fn greet<L: Link>(
     requires none_received { received.old ≡ 0 }
     ensures greeting { IsGreeting plan.now (link_at L.Meanings line.old) (link_at L.Meanings line.new) sent.new received.new result }
     ensures keeps { KeepsLink L.Meanings line.old line.new }
+
+    // Before a byte of it is read, the link is told how long CPong is waited for.
+    ensures awaits { IsOk result → plan.now.ping ≡ true → (before : L) × (after : L) × L.heard before (Awaited.Pong plan.now.limits.pong) after
+        × (L.received after ≡ L.received line.old) }
 {
     if !plan.ping {
         return Ok(());

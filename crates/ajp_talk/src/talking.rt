@@ -77,6 +77,9 @@ fn begin<L: Link>(
     requires begun { course.old ≡ fresh plan.now 0 0 }
     ensures begins { BeginsCourse plan.now (link_at L.Meanings line.old) (link_at L.Meanings line.new) course.new result }
     ensures keeps { KeepsLink L.Meanings line.old line.new }
+
+    // The last that the link was told is how long the reply is waited for.
+    ensures awaits { result ≡ None → (before : L) × L.heard before (Awaited.Reply plan.now.limits.reply) line.new }
 {
     match greet(room, plan, line, &mut course.sent, &mut course.received) {
         Ok(()) => {}

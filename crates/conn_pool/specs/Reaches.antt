@@ -77,6 +77,11 @@ abbrev pub HearsDial : {D : Type 0} → (heard : D → ℕ → Bool → D → Ty
 HearsDial heard before (awaited.Link millis keepalive) after = heard before millis keepalive after
 HearsDial heard before other after = after ≡ before
 
+-- a reach was told what is awaited: so was its talk's link, and where none runs its dial
+abbrev pub HearsReach : {D T L : Type 0} → (moment_of : L → Moment) → (link_heard : L → Awaited → L → Type 0) → (dial_heard : D → ℕ → Bool → D → Type 0) → PooledState D T L → Awaited → PooledState D T L → Type 0
+HearsReach moment_of link_heard dial_heard before what after =
+    IfSome before.lent (λ lent. HearsLink moment_of link_heard lent what) × (before.lent ≡ None → HearsDial dial_heard before.dial what after.dial)
+
 -- a call within a talk: the link stays whose it is, and is marked where the call failed
 pub record StaysLent {L : Type 0} (before after : LentState L) (result : Result ℕ IoError) : Type 0 where
   pub same : after ≡ record before { link = after.link; faulty = after.faulty }

@@ -6,7 +6,7 @@ ghost use Rattle.jk_io.specs.declared.reaching.Talk.{Talk};
 ghost use Rattle.conn_pool.specs.Backs.{back_of};
 ghost use Rattle.conn_pool.specs.Idle.{HasMember, counts};
 ghost use Rattle.jk_io.specs.Moments.{moment};
-ghost use Rattle.conn_pool.specs.Reaches.{beside_of, told_begun, FlushesLink, GoesBack, HearsDial, HearsLink, ReadsLink, WritesLink, StaysLent};
+ghost use Rattle.conn_pool.specs.Reaches.{beside_of, told_begun, FlushesLink, GoesBack, HearsReach, ReadsLink, WritesLink, StaysLent};
 
 use crate::beginning::{begin_dialled, begin_idle};
 use crate::idle::Idle;
@@ -190,10 +190,11 @@ impl<'p, 'r, D: Dial, T: Tape, R> Sink for PooledReach<'p, 'r, D, T, R> {
 }
 
 impl<'p, 'r, D: Dial, T: Tape, R> Link for PooledReach<'p, 'r, D, T, R> {
+    ghost heard = { HearsReach (moment D.L.incoming D.L.received D.L.sent D.L.faults) D.L.heard D.heard };
+
     fn await_next(&mut self, what: Awaited)
         // A talk's link is told, and where no talk runs the dial, of a link that is to be dialled.
-        ensures told { IfSome self.old.lent (λ lent. HearsLink (moment D.L.incoming D.L.received D.L.sent D.L.faults) D.L.heard lent what) }
-        ensures dialled { self.old.lent ≡ None → HearsDial D.heard self.old.dial what self.new.dial }
+        ensures told { HearsReach (moment D.L.incoming D.L.received D.L.sent D.L.faults) D.L.heard D.heard self.old what self.new }
         ensures talk { is_some self.old.lent ≡ true → self.new ≡ self.old }
         ensures same { self.new ≡ record self.old { dial = self.new.dial } }
         ensures dial { D.faults self.new.dial ≡ D.faults self.old.dial }

@@ -1,10 +1,10 @@
 //! A pooled reach that looks after its idle links between two sessions.
-ghost use Rattle.std.specs.Prelude.{◌≡◌, ◌<◌, None, IfSome, false, is_some};
+ghost use Rattle.std.specs.Prelude.{◌≡◌, ◌<◌, None, false, is_some};
 ghost use Rattle.std.specs.Option.{ForSome};
 ghost use Rattle.conn_pool.specs.Idle.{counts};
 ghost use Rattle.jk_io.specs.Moments.{moment};
 ghost use Rattle.conn_pool.specs.Looks.{ends_of};
-ghost use Rattle.conn_pool.specs.Reaches.{HearsDial, HearsLink};
+ghost use Rattle.conn_pool.specs.Reaches.{HearsReach};
 ghost use Rattle.conn_pool.specs.Watched.{LooksAt, RestsAt};
 
 use crate::watch::{Watch, watch_if_due};
@@ -110,9 +110,11 @@ impl<'p, 'r, D: Dial, T: Tape, R: Wait> Sink for WatchedReach<'p, 'r, D, T, R> {
 }
 
 impl<'p, 'r, D: Dial, T: Tape, R: Wait> Link for WatchedReach<'p, 'r, D, T, R> {
+    // what the pooled reach was told
+    ghost heard = { λ before what after. HearsReach (moment D.L.incoming D.L.received D.L.sent D.L.faults) D.L.heard D.heard before.pooled what after.pooled };
+
     fn await_next(&mut self, what: Awaited)
-        ensures told { IfSome self.old.pooled.lent (λ lent. HearsLink (moment D.L.incoming D.L.received D.L.sent D.L.faults) D.L.heard lent what) }
-        ensures dialled { self.old.pooled.lent ≡ None → HearsDial D.heard self.old.pooled.dial what self.new.pooled.dial }
+        ensures told { HearsReach (moment D.L.incoming D.L.received D.L.sent D.L.faults) D.L.heard D.heard self.old.pooled what self.new.pooled }
         ensures watch { self.new ≡ record self.old { pooled = record self.old.pooled { dial = self.new.pooled.dial } } }
         ensures dial { D.faults self.new.pooled.dial ≡ D.faults self.old.pooled.dial }
     {
