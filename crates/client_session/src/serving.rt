@@ -194,6 +194,9 @@ where
     ensures more { result ≡ SessionTurn.Next → number + 1 < MAX_REQUESTS }
     ensures busy { IsBusy result }
     ensures told { TellsTurn B.state R.Meanings C.Meanings (visit_of site.now) result around.old around.new }
+
+    // Before a byte of it is read, the client is told that its next request is waited for.
+    ensures awaits { (after : C) × C.heard around.old.client Awaited.Client after }
 {
     around.client.await_next(Awaited::Client);
     match read_head(alloc, around.inbox, around.client) {

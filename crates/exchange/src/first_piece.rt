@@ -1,5 +1,5 @@
 //! The first piece of a body, which is taken before a member is chosen.
-ghost use Rattle.std.specs.Prelude.{◌≡◌, ◌≤◌, IfOk, IfErr, OnOk};
+ghost use Rattle.std.specs.Prelude.{◌≡◌, ◌≢◌, ◌≤◌, IfOk, IfErr, OnOk};
 ghost use Rattle.ajp_talk.specs.Moments.{IsUsed};
 ghost use Rattle.forwarding.specs.FirstPiece.{first_len as first_length};
 ghost use Rattle.exchange.specs.FirstPiece.{IsFirstFailure, TakesFirst, body_left, end_by};
@@ -34,6 +34,9 @@ pub(crate) fn take_first<C: Link>(
     ensures calm { IfErr result (λ end. IsCalmExchange end → C.faults client.new ≡ C.faults client.old) }
     ensures same { (C.sent client.new ≡ C.sent client.old) × (C.beside client.new ≡ C.beside client.old) }
     ensures no_fewer { C.faults client.old ≤ C.faults client.new }
+
+    // Before a piece is read, the client is told that more of a body is waited for.
+    ensures awaits { first_length plan ends.now ≢ 0 → (after : C) × C.heard client.old Awaited.Body after }
 {
     let len = first_len(plan, ends);
     if len == 0 {

@@ -28,6 +28,9 @@ pub(crate) fn one_talk<R: Reach, C: Link>(
         IsOneTalk lb to.now.member to.now.endpoint.now plan.entry.now fresh (at sides.old) (at sides.new) result }
     ensures plan { IsPlanOf plan.entry.now plan.exit.now }
     ensures kept { KeepsSides R.Meanings C.Meanings sides.old sides.new }
+
+    // Before it begins, the reach is told how long a dial of this member may take.
+    ensures awaits { (after : R) × R.heard sides.old.reach (dial_for to.now.endpoint.now) after }
 {
     let endpoint = to.endpoint;
     sides.reach.await_next(dial_of(endpoint));
