@@ -1,4 +1,4 @@
-"""What drills hand out, written from the rules of a drill and the AJPv1.3 reference, apart from the program's own code.
+"""The output of drills, written from the rules of a drill and the AJPv1.3 reference, apart from the program's own code.
 
 vectors/serving.py makes rows of them.
 """

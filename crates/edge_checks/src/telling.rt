@@ -1,4 +1,4 @@
-//! What is told of bytes with moments of the system in them.
+//! The words for bytes with moments of the system in them.
 use jk_io::{Bytes, NoMemory, put_decimal};
 
 /// A byte of a moment by its kind.

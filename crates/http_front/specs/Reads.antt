@@ -1,4 +1,4 @@
--- What reads of a client leave of it: nothing is written, and each read that fails is counted.
+-- A client after reads of it: nothing is written, and each read that fails is counted.
 use Rattle.std.specs.Prelude.{◌≡◌, ◌≢◌, ℕ, ◌<◌, ◌≤◌, List, length, Result, Err, IsOk, IsErrOf}
 use Rattle.jk_io.specs.Told.{HasCause, IsEmpty, Rose}
 use Rattle.jk_io.specs.declared.failures.IoError.{IoError}

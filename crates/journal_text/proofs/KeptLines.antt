@@ -1,4 +1,4 @@
--- What a line says can stand in a segment of its rules.
+-- The saying of a line can stand in a segment of its rules.
 use Rattle.std.proofs.Common.{◌≡◌, ℕ, ◌≤◌, Bool, true, false, List, [], ◌∷◌, Option, Some, None, refl, arith}
 use Rattle.std.specs.Prelude.{IfSome, ◌==◌, nat_le, codes, if◌then◌else◌, option_map}
 use Rattle.std.specs.Str.{bytes_eq}
