@@ -1,7 +1,7 @@
 //! The places of a waiting room: plain data, by which no client is lost.
-ghost use Rattle.std.specs.Prelude.{◌≡◌, ◌+◌, ◌++◌, [], ◌∷◌, IfOk, IfErr, IfNone, IfSome, IsOk, OnErr, OnOk, Some, length, slice_get, slice_set, true, false};
+ghost use Rattle.std.specs.Prelude.{◌≡◌, ◌+◌, ◌++◌, [], ◌∷◌, IfOk, IfErr, IfNone, IfSome, IsOk, IsSome, None, OnErr, OnOk, Some, length, slice_get, slice_set, true, false};
 ghost use Rattle.waiting_room.specs.Longest.{GoesFirst, LongestIn};
-ghost use Rattle.waiting_room.specs.Rooms.{Changes, GivesBack, IsFreed, IsLookedOver, Stirs, TakesPlace, stay_at};
+ghost use Rattle.waiting_room.specs.Rooms.{Changes, GivesBack, IsFreed, IsLookedOver, Stirs, TakesPlace, stay_at, stay_in};
 ghost use Rattle.waiting_room.specs.Stays.{IsOver};
 
 use crate::stay::{Limits, Phase, Stay};
@@ -19,6 +19,20 @@ pub enum Place<C> {
     Waits(Stay, C),
     /// The client is ready, or a worker has it. True: something came since.
     Away(bool),
+}
+
+impl<C> Place<C> {
+    // The client who waits here; the place again where none does.
+    fn into_client(self) -> Result<(Stay, C), Place<C>>
+        ensures ok { IfOk result (λ c. self ≡ Place.Waits c.0 c.1) }
+        ensures err { IfErr result (λ other. (other ≡ self) × (stay_in (Some self) ≡ None)) }
+    {
+        match self {
+            Place::Waits(stay, client) => Ok((stay, client)),
+            Place::Free => Err(Place::Free),
+            Place::Away(came) => Err(Place::Away(came)),
+        }
+    }
 }
 
 /// The places of a room, and the clients that are ready for a worker, in order.
@@ -219,16 +233,16 @@ impl<C: Drop> Places<C> {
     /// The client who waits at a place goes.
     pub fn remove(&mut self, at: usize) -> Option<(Stay, C)>
         ensures some { IfSome result (λ c. Changes self.old.places at (Place.Waits c.0 c.1) Place.Free self.new.places) }
-        ensures none { IfNone result (self.new ≡ self.old) }
+        ensures none { IfNone result ((stay_at self.old.places at ≡ None) × (self.new ≡ self.old)) }
         ensures ready { self.new.ready ≡ self.old.ready }
     {
         let place = self.places.get_mut(at)?;
-        match mem::replace(place, Place::Free) {
-            Place::Waits(stay, client) => {
+        match mem::replace(place, Place::Free).into_client() {
+            Ok(gone) => {
                 self.note_free(at);
-                Some((stay, client))
+                Some(gone)
             }
-            other => {
+            Err(other) => {
                 *place = other;
                 None
             }
@@ -238,15 +252,15 @@ impl<C: Drop> Places<C> {
     /// The client who waits at a place is away for a moment.
     pub fn lift(&mut self, at: usize) -> Option<(Stay, C)>
         ensures some { IfSome result (λ c. Changes self.old.places at (Place.Waits c.0 c.1) (Place.Away false) self.new.places) }
-        ensures none { IfNone result (self.new ≡ self.old) }
+        ensures none { IfNone result ((stay_at self.old.places at ≡ None) × (self.new ≡ self.old)) }
         ensures ready { self.new.ready ≡ self.old.ready }
     {
         let place = self.places.get_mut(at)?;
-        match mem::replace(place, Place::Away(false)) {
-            Place::Waits(stay, client) => Some((stay, client)),
-            other => {
+        match mem::replace(place, Place::Away(false)).into_client() {
+            Ok(gone) => Some(gone),
+            Err(other) => {
                 *place = other;
-                None
+                return None;
             }
         }
     }
@@ -254,6 +268,7 @@ impl<C: Drop> Places<C> {
     /// The client who waits at a place goes, if it has waited too long.
     pub fn remove_over(&mut self, at: usize, limits: Limits, now: u64) -> Option<(Stay, C)>
         ensures some { IfSome result (λ c. IsOver limits c.0 now × Changes self.old.places at (Place.Waits c.0 c.1) Place.Free self.new.places) }
+        ensures late { IfSome (stay_at self.old.places at) (λ stay. IsOver limits stay now → IsSome result) }
         ensures none { IfNone result (self.new ≡ self.old) }
         ensures ready { self.new.ready ≡ self.old.ready }
     {
