@@ -196,7 +196,7 @@ where
     ensures told { TellsTurn B.state R.Meanings C.Meanings (visit_of site.now) result around.old around.new }
 
     // Before a byte of it is read, the client is told that its next request is waited for.
-    ensures awaits { (after : C) × C.heard around.old.client Awaited.Client after }
+    ensures awaits { (after : C) × C.heard around.old.client.now Awaited.Client after }
 {
     around.client.await_next(Awaited::Client);
     match read_head(alloc, around.inbox, around.client) {

@@ -30,7 +30,7 @@ pub(crate) fn one_talk<R: Reach, C: Link>(
     ensures kept { KeepsSides R.Meanings C.Meanings sides.old sides.new }
 
     // Before it begins, the reach is told how long a dial of this member may take.
-    ensures awaits { (after : R) × R.heard sides.old.reach (dial_for to.now.endpoint.now) after }
+    ensures awaits { (after : R) × R.heard sides.old.reach.now (dial_for to.now.endpoint.now) after }
 {
     let endpoint = to.endpoint;
     sides.reach.await_next(dial_of(endpoint));
