@@ -196,6 +196,10 @@ pub if_ok : {T E : Type 0} (r : Result T E) (P Q : T → Type 0) → ((x : T) �
 if_ok (Ok x) P Q then is = then x is
 if_ok (Err e) P Q then is = tt
 
+pub both_ok : {T E : Type 0} (r : Result T E) (P Q R : T → Type 0) → ((x : T) → P x → Q x → R x) → IfOk r P → IfOk r Q → IfOk r R
+both_ok (Ok x) P Q R then p q = then x p q
+both_ok (Err e) P Q R then p q = tt
+
 -- When a hold cut.
 pub cuts_when : (sizes firsts : List ℕ) (cut_at lb : ℕ) (books books' : List Journal) (cut : Option (ℕ × Segment)) → AreSited sizes firsts books → lb < length books
     → CutsFirst books books' lb cut → At books lb (λ b. IsSome cut ↔ ((0 < cut_at) × (cut_at ≤ length b.entries))) → CutsWhen sizes cut_at lb cut

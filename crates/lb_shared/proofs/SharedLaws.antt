@@ -1,11 +1,10 @@
 -- A hold of the lock, told of the desk that has it.
 use Rattle.std.proofs.Common.{◌≡◌, ℕ, zero, suc, ◌+◌, ◌^◌, ◌<◌, ◌≤◌, true, false, not, List, [], ◌∷◌, ◌++◌, length, take, drop, get_or, Option, Some, None, refl, sym, ap, ◌∙◌, subst, inl, inr, arith, append-nil}
-use Rattle.std.specs.Prelude.{◌&&◌, IfErr, IfOk, IfSome, OnErr, OnOk, Result, Ok, Err, reverse, slice_get, slice_index}
+use Rattle.std.specs.Prelude.{◌&&◌, IfErr, IfOk, IfSome, OnErr, OnOk, Result, Ok, Err, reverse, slice_get}
 use Rattle.std.specs.List.{AllByRecursion as ByRecursion}
 use Rattle.std.proofs.lemmas.Bool.{cases_Bool}
 use Rattle.std.proofs.lemmas.List.{append-nil, drop_all, length-append, length-reverse}
 use Rattle.std.proofs.lemmas.List.Elements.{All-append, All-from_recursion, All-nil, recursion_from_All}
-use Rattle.lb_model.specs.Present.{IsPresent}
 use Rattle.lb_model.specs.declared.ask.Ask.{Ask}
 use Rattle.lb_model.specs.declared.change.Command.{Command}
 use Rattle.lb_model.specs.declared.journal.Call.TheVariants as call
@@ -19,8 +18,8 @@ use Rattle.lb_model.specs.declared.refusal.RoomError.TheVariants as room
 use Rattle.lb_model.specs.declared.refusal.Stray.{Stray}
 use Rattle.lb_model.specs.declared.segment.Segment.{Segment}
 use Rattle.lb_book.specs.Desks.{Chooses, Commands, DeskState, KeepsDesk, RefusesChoice, RefusesCommand, Gains, GainsDue, GainsLast, IsAskRefusal, IsChoice, IsCommandRefusal, IsDue, IsOwn, LeaseNote, Shows, TakesBack, holds, is_pair, without_last}
-use Rattle.lb_book.specs.Journal.{Journal, next_number, past_of}
-use Rattle.lb_book.specs.ToldBooks.{AreNextAt, AreSound, Follows, IsFound}
+use Rattle.lb_book.specs.Journal.{Journal, next_number}
+use Rattle.lb_book.specs.ToldBooks.{AreNextAt, AreSound, Follows}
 use Rattle.lb_book.specs.declared.desk.Choice.{Choice}
 use Rattle.lb_book.specs.declared.desk.Choice.TheVariants as choice
 use Rattle.lb_book.specs.declared.receipt.Receipt.{Receipt}
@@ -32,7 +31,7 @@ use Rattle.lb_shared.specs.Shelves.{CutsAt}
 use Rattle.lb_shared.specs.Sites.{AreSited}
 use Rattle.lb_shared.proofs.HoldLaws.{sited_found}
 use Rattle.lb_shared.proofs.LockLaws.{after_cut, returned as returned_done}
-use Rattle.lb_shared.specs.SharedDesks.{AreKnown, CountsFull, CountsRefusal, GoesOnFrom, IsShared, pairs_of, shared_desk}
+use Rattle.lb_shared.specs.SharedDesks.{AreKnown, CountsFull, CountsRefusal, GoesOnFrom, IsShared, IsViewOf, pairs_of, shared_desk}
 
 pub none_sound : (sizes : List ℕ) → AreSound sizes None
 none_sound sizes = record {
@@ -606,13 +605,12 @@ shared_returned n rs rs' h h' p parts parts' a a' f room room' (Err e) is had on
 
 -- The view of a look.
 pub shows_shared : {E : Type 0} (sizes : List ℕ) (parts : ℕ) (rs : List Receipt) (h : List (ℕ × ℕ)) (a s f w : ℕ) (m : Option Stray) (lb : ℕ) (r : Result ViewNote E)
-    → IfOk r (λ v. (b : Journal) × IsFound sizes None lb b × IsPresent b.rules b.opening (past_of b) v.view) → IfOk r (λ v. length v.view.rows ≡ slice_index sizes lb)
-    → IfOk r (λ v. Shows (shared_desk sizes parts rs h a s f w m) lb v.view)
-shows_shared sizes parts rs h a s f w m lb (Ok v) present rows = record {
-  book = present.0;
-  found = present.1;
-  rows = rows;
-  present = present.2;
+    → IfOk r (IsViewOf sizes lb) → IfOk r (λ v. Shows (shared_desk sizes parts rs h a s f w m) lb v.view)
+shows_shared sizes parts rs h a s f w m lb (Ok v) is = record {
+  book = is.present.0;
+  found = is.present.1;
+  rows = is.rows;
+  present = is.present.2;
   sound = none_sound sizes;
 }
-shows_shared sizes parts rs h a s f w m lb (Err e) present rows = tt
+shows_shared sizes parts rs h a s f w m lb (Err e) is = tt

@@ -1,5 +1,5 @@
 -- The one history of a Site, and what a desk has seen of it. Read this with specs/Seats.antt.
-use Rattle.std.specs.Prelude.{◌≡◌, ◌≢◌, ◌⊎◌, ℕ, ◌-◌, ◌==◌, ◌<◌, Bool, true, false, List, [], ◌∷◌, ◌++◌, length, map, reverse, drop, Option, Some, None, slice_get}
+use Rattle.std.specs.Prelude.{◌≡◌, ◌≢◌, ◌⊎◌, ℕ, ◌-◌, ◌==◌, ◌<◌, Bool, true, false, List, [], ◌∷◌, ◌++◌, length, map, reverse, drop, IfOk, Option, Some, None, Result, slice_get}
 use Rattle.std.specs.List.{All, filter}
 use Rattle.atomic_table.specs.Seated.{TableId}
 use Rattle.atomic_table.specs.Table.{Me}
@@ -239,6 +239,14 @@ pub record IsClosedAfter (starts : List Opening) (seats : List SeatNote) (count 
 -- The view is that of balancer lb after this history of the Site.
 abbrev pub IsPresentOf : List Opening → (log : List (ℕ × (ℕ × Entry))) → (lb : ℕ) → ViewNote → Type 0
 IsPresentOf starts log lb v = (o : Opening) → slice_get starts lb ≡ Some o → IsPresent modern_rules o (reverse (entries_of lb log)) v.view
+
+-- A look at balancer lb by the desk with this seat: what it has seen then has no new entry and no new cut of its own, and the view
+-- is the balancer after it.
+pub record LooksAt {E : Type 0} (starts : List Opening) (old new : SeatNote) (lb : ℕ) (shown : Result ViewNote E) : Type 0 where
+  pub sees : DeskSees starts old new []
+  pub marks : cuts_seen new ≡ cuts_seen old
+  pub begun : new.starts ≡ old.starts
+  pub whole : IfOk shown (IsPresentOf starts new.seen lb)
 
 -- A desk since it had this seat and these receipts: it is at the same lock under the same number. Its receipts were
 -- only added to, and of its own entries it has seen just those of the added ones besides, in their order.

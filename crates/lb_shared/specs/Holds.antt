@@ -32,7 +32,7 @@ use Rattle.lb_shared.specs.Shelves.{CutsAt}
 use Rattle.lb_shared.specs.Sites.{AreSited, At}
 use Rattle.lb_shared.specs.declared.account.Account.{Account}
 use Rattle.lb_shared.specs.declared.locked.HandedBack.{HandedBack}
-use Rattle.lb_shared.specs.declared.site.SiteName.{Ghosts}
+use Rattle.lb_shared.specs.declared.site.TheConstants.{MOST_ENTRIES}
 use Rattle.lb_shared.specs.declared.site.MarkKind.{MarkKind}
 use Rattle.lb_shared.specs.declared.site.MarkKind.TheVariants as refusal
 
@@ -77,25 +77,36 @@ pub record HeldState : Type 0 where
 abbrev pub held : List Journal → List Receipt → (amount : ℕ) → HeldState
 held books receipts amount = record { books = books; receipts = receipts; amount = amount }
 
-abbrev pub held_by : {L : Type 0} {n : Ghosts L} → List Journal → Account L n → HeldState
+abbrev pub held_by : {L : Type 0} → List Journal → Account L → HeldState
 held_by books account = held books account.receipts.items account.share.amount
 
-abbrev pub hold_of : {L : Type 0} {n : Ghosts L} → LockedState → Account L n → HeldState
+abbrev pub hold_of : {L : Type 0} → LockedState → Account L → HeldState
 hold_of locked account = held_by locked.books account
 
--- An account keeps its part of the ledger, and its room for receipts.
-abbrev pub KeepsAccount : {L : Type 0} {n : Ghosts L} → (old new : Account L n) → Type 0
-KeepsAccount old new = (new.share.parts ≡ old.share.parts) × (vec_capacity old.receipts ≤ vec_capacity new.receipts)
+-- An account keeps its part of the ledger and its room for receipts, and counts no cut.
+pub record KeepsAccount {L : Type 0} (old new : Account L) : Type 0 where
+  pub parts : new.share.parts ≡ old.share.parts
+  pub room : vec_capacity old.receipts ≤ vec_capacity new.receipts
+  pub cuts : new.cuts ≡ old.cuts
 
 -- The value behind the lock tells of balancer lb, and of as many entries as this account got receipts for; and of this cut, which
 -- it has counted.
-abbrev pub TellsAdded : {L : Type 0} {n : Ghosts L} → (lb : ℕ) → LockedState → (old new : Account L n) → Type 0
+abbrev pub TellsAdded : {L : Type 0} → (lb : ℕ) → LockedState → (old new : Account L) → Type 0
 TellsAdded lb told old new = (told.lb ≡ lb) × (told.count ≡ length new.receipts.items - length old.receipts.items)
 
-abbrev pub TellsNews : {L : Type 0} {n : Ghosts L} → (lb : ℕ) → Option (ℕ × Segment) → (was told : LockedState) → (old new : Account L n) → Type 0
+abbrev pub TellsNews : {L : Type 0} → (lb : ℕ) → Option (ℕ × Segment) → (was told : LockedState) → (old new : Account L) → Type 0
 TellsNews lb cut was told old new =
     (told.lb ≡ lb) × (told.count ≡ length new.receipts.items - length old.receipts.items) × (told.cut ≡ is_some cut)
     × (told.cuts ≡ with_cut (is_some cut) was.cuts)
+
+-- A hold of balancer lb is over: the value behind the lock tells of it. The account keeps its part of the ledger and its room for
+-- receipts; it counts this cut, and few entries.
+pub record EndsHold {L : Type 0} (lb : ℕ) (cut : Option (ℕ × Segment)) (was told : LockedState) (old new : Account L) : Type 0 where
+  pub news : TellsNews lb cut was told old new
+  pub parts : new.share.parts ≡ old.share.parts
+  pub room : vec_capacity old.receipts ≤ vec_capacity new.receipts
+  pub counted : new.cuts.amount ≡ with_cut (is_some cut) old.cuts.amount
+  pub few : new.share.amount ≤ MOST_ENTRIES
 
 -- A receipt, if there is one, as a list.
 abbrev pub listed : Option Receipt → List Receipt

@@ -1,23 +1,26 @@
 -- A desk over a Site that is shared: its state, its shelf and its seat, and the same after each of its calls.
-use Rattle.std.specs.Prelude.{◌≡◌, ℕ, suc, true, false, drop, slice_get, slice_index_or, ◌+◌, ◌<◌, ◌≤◌, ◌⊎◌, ◌↔◌, List, [], ◌∷◌, length, Option, Some, None, IfSome, IsSome, Result, Ok, Err}
+use Rattle.std.specs.Prelude.{◌≡◌, ℕ, suc, true, false, drop, slice_get, slice_index, slice_index_or, ◌+◌, ◌<◌, ◌≤◌, ◌⊎◌, ◌↔◌, List, [], ◌∷◌, length, Option, Some, None, IfErr, IfOk, IfSome, IsOk, IsSome, OnOk, Result, Ok, Err}
 use Rattle.std.specs.List.{All}
 use Rattle.jk_io.specs.Told.{Rose, appended}
 use Rattle.lb_model.specs.Legal.{IsLegal}
+use Rattle.lb_model.specs.Present.{IsPresent}
+use Rattle.lb_model.specs.declared.journal.Outcome.{Outcome}
+use Rattle.lb_model.specs.declared.opening.Opening.{Opening}
 use Rattle.lb_model.specs.declared.refusal.AdminError.{AdminError}
 use Rattle.lb_model.specs.declared.refusal.AdminError.TheVariants as admin
 use Rattle.lb_model.specs.declared.refusal.RoomError.{RoomError}
 use Rattle.lb_model.specs.declared.refusal.RoomError.TheVariants as room
 use Rattle.lb_model.specs.declared.refusal.Stray.{Stray}
 use Rattle.lb_model.specs.declared.segment.Segment.{Segment}
-use Rattle.lb_book.specs.Desks.{DeskState, LeaseNote, RisesByOne, holds, is_pair}
-use Rattle.lb_book.specs.Journal.{IsSegmentOf, Journal}
+use Rattle.lb_book.specs.Desks.{DeskState, IsNotOut, KeepsDesk, LeaseNote, MeetsStray, RisesByOne, TakesBack, holds, is_pair, pair_of, without_last}
+use Rattle.lb_book.specs.Journal.{IsSegmentOf, Journal, past_of}
 use Rattle.lb_book.specs.ToldBooks.{IsFound}
 use Rattle.lb_book.specs.declared.desk.Choice.{Choice}
 use Rattle.lb_book.specs.declared.desk.Choice.TheVariants as choice
 use Rattle.lb_book.specs.declared.receipt.Receipt.{Receipt}
-use Rattle.lb_shared.specs.Histories.{MayCut, SeatNote, cuts_seen}
-use Rattle.lb_shared.specs.Notes.{MarkNote, StrayNote}
-use Rattle.lb_shared.specs.Shelves.{ShelfNote}
+use Rattle.lb_shared.specs.Histories.{DeskSees, GoesOn, MayCut, SeatNote, cuts_seen, gained_in}
+use Rattle.lb_shared.specs.Notes.{MarkNote, StrayNote, ViewNote}
+use Rattle.lb_shared.specs.Shelves.{AdmissionNote, ShelfNote, ShelvesOn, for_call}
 
 -- A desk over a shared Site: what each desk tells, its shelf, how many receipts it forgot, for how many segments the
 -- shelf wanted memory, the first stray that it met since the last was taken, and its seat at the lock.
@@ -39,6 +42,11 @@ shelf_note shelved faults d = record {
   starts = d.seat.starts;
   cuts = cuts_seen d.seat;
 }
+
+-- A desk at a lock went on from here: its seat has seen the receipts that it got besides, and its shelf was only added to.
+pub record GoesOnHere {B : Type 0} (state : B → DeskState) (seat : B → SeatNote) (shelf : B → ShelfNote) (old new : B) : Type 0 where
+  pub gone : GoesOn (seat old) (state old).receipts (seat new) (state new).receipts
+  pub shelved : ShelvesOn (shelf old) (shelf new)
 
 -- what each desk tells of a stray, which doesn't name its balancer
 abbrev pub stray_in : Option StrayNote → Option Stray
@@ -93,6 +101,12 @@ pub record CutsWhen (sizes : List ℕ) (cut_at lb : ℕ) (cut : Option (ℕ × S
   pub when : IsSome cut ↔ ((0 < cut_at) × (cut_at ≤ length before.entries))
   pub whole : IfSome cut (λ s. IsSegmentOf before s.1)
   pub legal : IfSome cut (λ s. IsLegal s.1.rules s.1.opening s.1.entries)
+
+-- The view is of balancer lb, with a row for each of its members: a journal of the balancer, as it is at present.
+pub record IsViewOf (sizes : List ℕ) (lb : ℕ) (v : ViewNote) : Type 0 where
+  pub of : v.lb ≡ lb
+  pub rows : length v.view.rows ≡ slice_index sizes lb
+  pub present : (b : Journal) × IsFound sizes None lb b × IsPresent b.rules b.opening (past_of b) v.view
 
 -- As `CutsWhen`, or nothing was cut for want of memory.
 abbrev pub CutsOrWants : (sizes : List ℕ) → (cut_at lb : ℕ) → Option (ℕ × Segment) → (Wanting : Type 0) → Type 0
@@ -157,3 +171,26 @@ CountsRefusal fulls fulls' wides wides' (Err admin.NoMemory) = (fulls' ≡ fulls
 abbrev pub first_met : Option StrayNote → StrayNote → Option StrayNote
 first_met None stray = Some stray
 first_met (Some before) stray = Some before
+
+-- A session gave a lease back to the desk, which has an entry more exactly where it took it. Else it met a stray, and keeps the
+-- first one. Its seat has seen the entry of a Return, and no other one of its own.
+pub record HandsBack {S U : Type 0} (starts : List Opening) (old new : SharedState S) (session at : ℕ) (lease : LeaseNote) (outcome : Outcome) (done : Result U Stray) : Type 0 where
+  pub ok : IfOk done (λ _. TakesBack old.desk new.desk session at lease outcome)
+  pub err : IfErr done (λ stray. MeetsStray old.desk new.desk lease stray)
+  pub held : new.desk.held ≡ without_last old.desk.held (pair_of lease)
+  pub same : (new.desk.fulls ≡ old.desk.fulls) × (new.desk.wides ≡ old.desk.wides)
+  pub kept : KeepsDesk old.desk new.desk
+  pub counted : IsOk done ↔ (new.desk.added ≡ old.desk.added + 1)
+  pub sees : DeskSees starts old.seat new.seat (gained_in old.desk.receipts new.desk.receipts)
+  pub none_met : OnOk done (new.met ≡ old.met)
+  pub met : IfErr done (λ stray. new.met ≡ first_met old.met (record { lb = lease.lb; stray = stray }))
+
+-- The balancer is one of the Site's, and the shelf admitted what a call may add to it.
+pub record MayCall (sizes : List ℕ) (lb : ℕ) (admission : AdmissionNote) : Type 0 where
+  pub known : lb < length sizes
+  pub admitted : admission ≡ for_call lb
+
+-- The ticket of this lease came back to its balancer, and wasn't out.
+pub record IsStrayOf (sizes : List ℕ) (lease : LeaseNote) (s : StrayNote) : Type 0 where
+  pub of : (s.lb ≡ lease.lb) × (s.stray.ticket ≡ lease.ticket)
+  pub why : IsNotOut sizes None lease s.stray

@@ -1,9 +1,10 @@
 -- The Books of a Site, and what its calls do with them.
-use Rattle.std.specs.Prelude.{◌≡◌, ℕ, ◌+◌, ◌≤◌, List, [], ◌∷◌, length, map, sum_by, Some, slice_get, slice_index, slice_set}
+use Rattle.std.specs.Prelude.{◌≡◌, ℕ, ◌+◌, ◌≤◌, List, [], ◌∷◌, length, map, sum_by, MatchResult, OnErr, Result, Some, slice_get, slice_index, slice_set}
+use Rattle.std.specs.declared.sync.ledger.Share.{Share}
 use Rattle.lb_model.specs.Limits.{most_balancers}
 use Rattle.lb_model.specs.declared.journal.Call.{Call}
 use Rattle.lb_book.specs.Desks.{IsOwn}
-use Rattle.lb_book.specs.Journal.{Journal, next_number}
+use Rattle.lb_book.specs.Journal.{IsSound, Journal, next_number}
 use Rattle.lb_book.specs.PlainDesks.{AreLegal, AreModern}
 use Rattle.lb_book.specs.ToldBooks.{IsNextAt, grown_by, sizes_of}
 use Rattle.lb_book.specs.declared.receipt.Receipt.{Receipt}
@@ -49,3 +50,11 @@ pub record AddsAt (old new : List Journal) (lb session at : ℕ) (call : Call) (
   pub called : r.entry.call ≡ call
   pub next : IsNextAt book at r.entry
   pub grown : new ≡ slice_set old lb (grown_by book (r ∷ []))
+
+-- What a call on balancer lb leaves of a Site and of a share of its ledger: the Book is sound, and a refusal changed nothing. The
+-- share keeps its parts, and counts one entry more exactly where the call was done.
+pub record LeavesSite {L T E : Type 0} (lb : ℕ) (old new : List Journal) (share share' : Share L) (done : Result T E) : Type 0 where
+  pub sound : At new lb (λ b. IsSound b)
+  pub err : OnErr done (new ≡ old)
+  pub amount : MatchResult done (λ _. share'.amount ≡ share.amount + 1) (λ _. share'.amount ≡ share.amount)
+  pub parts : share'.parts ≡ share.parts

@@ -1,5 +1,5 @@
 -- A desk's stake in a Site, and how a hold of the lock changes it, whatever the desk counted.
-use Rattle.std.specs.Prelude.{◌≡◌, ℕ, List, Option}
+use Rattle.std.specs.Prelude.{◌≡◌, ℕ, ◌+◌, ◌≤◌, List, Option, length}
 use Rattle.lb_model.specs.declared.ask.Ask.{Ask}
 use Rattle.lb_model.specs.declared.change.Command.{Command}
 use Rattle.lb_model.specs.declared.refusal.AdminError.{AdminError}
@@ -7,11 +7,12 @@ use Rattle.lb_model.specs.declared.refusal.AdminError.TheVariants as admin
 use Rattle.lb_model.specs.declared.refusal.RoomError.{RoomError}
 use Rattle.lb_model.specs.declared.refusal.RoomError.TheVariants as room
 use Rattle.lb_model.specs.declared.refusal.Stray.{Stray}
+use Rattle.lb_model.specs.declared.segment.Segment.{Segment}
 use Rattle.lb_book.specs.Desks.{Chooses, Commands, DeskState, GainsDue, IsAskRefusal, IsCommandRefusal, LeaseNote, TakesBack}
 use Rattle.lb_book.specs.declared.desk.Choice.{Choice}
 use Rattle.lb_book.specs.declared.desk.Occasion.{Occasion}
 use Rattle.lb_book.specs.declared.receipt.Receipt.{Receipt}
-use Rattle.lb_shared.specs.Histories.{SeatNote}
+use Rattle.lb_shared.specs.Histories.{MayCut, SeatNote}
 use Rattle.lb_shared.specs.Notes.{MarkNote}
 use Rattle.lb_shared.specs.SharedDesks.{shared_desk}
 use Rattle.lb_shared.specs.declared.locked.HandedBack.{HandedBack}
@@ -34,6 +35,12 @@ told_of sizes stake strays fulls wides met = shared_desk sizes stake.parts stake
 -- A hold keeps the part of the ledger, forgets no receipt, and is at the same Site.
 abbrev pub KeepsStake : (old new : StakeState) → Type 0
 KeepsStake old new = (new.parts ≡ old.parts) × (new.forgotten ≡ old.forgotten) × (new.seat.starts ≡ old.seat.starts)
+
+-- As `KeepsStake`, of a hold that chooses or commands: it adds two receipts at most, and its seat has seen this cut as its own.
+pub record KeepsInCall (old new : StakeState) (cut : Option (ℕ × Segment)) : Type 0 where
+  pub stake : KeepsStake old new
+  pub two : length new.receipts ≤ length old.receipts + 2
+  pub marks : MayCut old.seat new.seat cut
 
 -- The desk chose.
 abbrev pub StakeChooses : (sizes : List ℕ) → (old new : StakeState) → Occasion → Ask → Choice LeaseNote → Type 0

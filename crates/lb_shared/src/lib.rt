@@ -8,8 +8,8 @@
 //! number of the seat that made it, which exists in contracts alone; a desk's seat, which takes no memory, knows what it has seen of
 //! that history and which steps are its own (specs/Histories.antt, `SeesHold`, `MayCut`). The lock is the futex lock of three states,
 //! over the kit's table of words and slots.
-//! Contract: each call of a `Site`, clauses `ok`, `amount` and `err`; `Site::close`, clause `counted`; `SharedDesk` is a
-//! `Desk`, with `hand_back`, clause `counted`, `choose` and `command`, clause `shelf`, and each call, clause `sees`; its own `take_back`,
+//! Contract: each call of a `Site`, clauses `ok` and `leaves`; `Site::close`, clause `counted`; `SharedDesk` is a
+//! `Desk`, with `hand_back`, clause `back`, `choose` and `command`, clause `shelf`, and each call, clause `sees`; its own `take_back`,
 //! clause `shelf`; the type `Leaving`, fields `counted` and `own_cuts`; `SharedSite::into_site`.
 //! Of the lock: `HistoryLock::enter`, clause `took`, and `HistoryLock::leave`, clause `left` (specs/Seats.antt).
 //! What stands behind the lock keeps that no journal grows much longer than where it is cut (specs/Holds.antt, `AreShort`).

@@ -83,16 +83,8 @@ impl<S: Drop, E, T: Telling<S, E>> HistoryLock<S, E, T> {
                 return;
             }
         }
-        self.wait(rt, seat);
-    }
 
-    // Sleeps while the lock is held.
-    fn wait<R: Wait>(&self, rt: &R, seat: &mut LockSeat<S, E>)
-        requires of { seat.old.table_id ≡ self.now.table.shared.table_id }
-        requires out { seat.old.me.0.holds ≡ false }
-        ensures of { seat.new.table_id ≡ seat.old.table_id }
-        ensures took { Took T.tells seat.old.me.0 seat.old.me.1 seat.new.me }
-    {
+        // It sleeps while the lock is held.
         for _ in rt.forever() {
             if self.table.shared.swap::<Enter<T>>(seat, 0, AWAITED) == FREE {
                 return;

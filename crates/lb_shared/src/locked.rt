@@ -1,4 +1,6 @@
 //! The value behind the lock: the Site, and the calls of one hold of it.
+ghost use Rattle.std.specs.Prelude.{◌≤◌};
+ghost use Rattle.lb_model.specs.declared.journal.TheConstants.{MOST_BYTES};
 
 use crate::account::Account;
 use crate::holds::{choose_in, command_in, note};
@@ -25,6 +27,7 @@ pub(crate) struct HandedBack<L> {
     pub(crate) at: u64,
     pub(crate) lease: SiteLease<L>,
     pub(crate) outcome: Outcome,
+    ghost bytes: { outcome.bytes ≤ MOST_BYTES },
 }
 
 /// A Site whose journals are cut before they grow long, with the ledger of the cuts, and the balancer of the last hold, whether it
@@ -52,11 +55,9 @@ impl<L: SiteName> Model for Locked<L> {
 }
 
 impl<L: SiteName> Locked<L> {
-    ghost use Rattle.std.specs.Prelude.{◌≡◌, ℕ, ◌+◌, ◌<◌, ◌≤◌, ◌↔◌, false, [], length, slice_index, vec_len, vec_capacity, None, IfOk, IfErr, IsErr, IsErrOf, IsSome, OnOk, OnErr, is_some};
+    ghost use Rattle.std.specs.Prelude.{◌≡◌, ℕ, ◌+◌, ◌<◌, ◌≤◌, ◌↔◌, false, [], length, slice_index, vec_len, vec_capacity, IfOk, IfErr, IsErr, IsErrOf, IsSome, OnOk, OnErr, is_some};
     ghost use Rattle.lb_model.specs.Present.{IsPresent};
-    ghost use Rattle.lb_book.specs.Desks.{IsNotOut};
-    ghost use Rattle.lb_book.specs.Journal.{Journal, past_of};
-    ghost use Rattle.lb_book.specs.ToldBooks.{IsFound};
+    ghost use Rattle.lb_book.specs.Journal.{past_of};
     ghost use Rattle.lb_shared.specs.Holds.{
       CutChooses,
       CutCommands,
@@ -65,19 +66,18 @@ impl<L: SiteName> Locked<L> {
       CutRefuses,
       CutTakesBack,
       CutsFirst,
+      EndsHold,
       HoldReturns,
       IsAdminMark,
       IsRoomMark,
       KeepsAccount,
       TellsAdded,
-      TellsNews,
       cut_in,
       hold_of,
       with_cut,
     };
-    ghost use Rattle.lb_shared.specs.SharedDesks.{CutsOrWants};
+    ghost use Rattle.lb_shared.specs.SharedDesks.{CutsOrWants, IsStrayOf, IsViewOf};
     ghost use Rattle.lb_shared.specs.Sites.{AreSited, At};
-    ghost use Rattle.lb_model.specs.declared.journal.TheConstants.{MOST_BYTES};
     ghost use Rattle.lb_shared.specs.declared.site.TheConstants.{MOST_ENTRIES};
 
     pub(crate) fn new(site: Site<L>, cuts: Tally<CutLedger<L>>, cut_at: u32) -> Locked<L>
@@ -145,26 +145,20 @@ impl<L: SiteName> Locked<L> {
         on: Occasion,
         ask: &Ask,
         account: &mut Account<L>,
-        cuts: &mut Share<CutLedger<L>>,
     ) -> Cut<L, Result<Choice<SiteLease<L>>, RoomError<SiteMark<L>>>>
         requires lb { on.lb < length L.sizes }
         requires room { vec_len account.old.receipts + 2 ≤ vec_capacity account.old.receipts }
-        requires part { 0 < cuts.old.parts }
         ensures ok { IfOk result.1 (CutChooses L.sizes L.firsts result.0 (hold_of self.old account.old) (hold_of self.new account.new) on ask.now) }
         ensures err { IfErr result.1 (CutDenies L.sizes L.firsts result.0 (hold_of self.old account.old) (hold_of self.new account.new) on) }
         ensures when { CutsOrWants L.sizes L.cut_at on.lb result.0 (IsErrOf result.1 RoomError.NoMemory) }
         ensures mark { IfErr result.1 (IsRoomMark on.lb 2) }
-        ensures few { account.new.share.amount ≤ MOST_ENTRIES }
-        ensures kept { KeepsAccount account.old account.new }
-        ensures news { TellsNews on.lb result.0 self.old self.new account.old account.new }
-        ensures counted { cuts.new.amount ≡ with_cut (is_some result.0) cuts.old.amount }
-        ensures parts { cuts.new.parts ≡ cuts.old.parts }
+        ensures ends { EndsHold on.lb result.0 self.old self.new account.old account.new }
     {
         let before = account.receipts.len();
         self.site.audit(&mut account.share);
         self.lb = on.lb;
         self.count = 0;
-        let segment = match self.cut_first(on.lb, cuts) {
+        let segment = match self.cut_first(on.lb, &mut account.cuts) {
             Ok(segment) => segment,
             Err(NoMemory) => return (None, Err(RoomError::NoMemory)),
         };
@@ -180,26 +174,20 @@ impl<L: SiteName> Locked<L> {
         on: Occasion,
         command: &Command,
         account: &mut Account<L>,
-        cuts: &mut Share<CutLedger<L>>,
     ) -> Cut<L, Result<(), AdminError<SiteMark<L>>>>
         requires lb { on.lb < length L.sizes }
         requires room { vec_len account.old.receipts + 2 ≤ vec_capacity account.old.receipts }
-        requires part { 0 < cuts.old.parts }
         ensures ok { OnOk result.1 (CutCommands L.sizes L.firsts result.0 (hold_of self.old account.old) (hold_of self.new account.new) on command.now) }
         ensures err { IfErr result.1 (CutRefuses L.sizes L.firsts result.0 (hold_of self.old account.old) (hold_of self.new account.new) on command.now) }
         ensures when { CutsOrWants L.sizes L.cut_at on.lb result.0 (IsErrOf result.1 AdminError.NoMemory) }
         ensures mark { IfErr result.1 (IsAdminMark on.lb) }
-        ensures few { account.new.share.amount ≤ MOST_ENTRIES }
-        ensures kept { KeepsAccount account.old account.new }
-        ensures news { TellsNews on.lb result.0 self.old self.new account.old account.new }
-        ensures counted { cuts.new.amount ≡ with_cut (is_some result.0) cuts.old.amount }
-        ensures parts { cuts.new.parts ≡ cuts.old.parts }
+        ensures ends { EndsHold on.lb result.0 self.old self.new account.old account.new }
     {
         let before = account.receipts.len();
         self.site.audit(&mut account.share);
         self.lb = on.lb;
         self.count = 0;
-        let segment = match self.cut_first(on.lb, cuts) {
+        let segment = match self.cut_first(on.lb, &mut account.cuts) {
             Ok(segment) => segment,
             Err(NoMemory) => return (None, Err(AdminError::NoMemory)),
         };
@@ -210,29 +198,17 @@ impl<L: SiteName> Locked<L> {
     }
 
     /// Cuts the journal if due, and takes a lease back. Where there is no memory for the cut the journal isn't cut.
-    pub(crate) fn give_back(
-        &mut self,
-        back: HandedBack<L>,
-        account: &mut Account<L>,
-        cuts: &mut Share<CutLedger<L>>,
-    ) -> CutBack<L>
+    pub(crate) fn give_back(&mut self, back: HandedBack<L>, account: &mut Account<L>) -> CutBack<L>
         requires lb { back.lease.lb < length L.sizes }
-        requires bytes { back.outcome.bytes ≤ MOST_BYTES }
         requires room { vec_len account.old.receipts < vec_capacity account.old.receipts }
-        requires part { 0 < cuts.old.parts }
         ensures ok { OnOk result.1 (CutTakesBack L.sizes L.firsts (cut_in result.0) (hold_of self.old account.old) (hold_of self.new account.new) back) }
         ensures err { OnErr result.1 (CutMeets L.sizes L.firsts (cut_in result.0) (hold_of self.old account.old) (hold_of self.new account.new) back.lease.lb) }
         ensures when { CutsOrWants L.sizes L.cut_at back.lease.lb (cut_in result.0) (IsErr result.0) }
-        ensures stray { IfErr result.1 (λ s. (s.lb ≡ back.lease.lb) × (s.stray.ticket ≡ back.lease.ticket)) }
-        ensures why { IfErr result.1 (λ s. IsNotOut L.sizes None back.lease s.stray) }
-        ensures few { account.new.share.amount ≤ MOST_ENTRIES }
-        ensures kept { KeepsAccount account.old account.new }
-        ensures news { TellsNews back.lease.lb (cut_in result.0) self.old self.new account.old account.new }
-        ensures counted { cuts.new.amount ≡ with_cut (is_some (cut_in result.0)) cuts.old.amount }
-        ensures parts { cuts.new.parts ≡ cuts.old.parts }
+        ensures stray { IfErr result.1 (IsStrayOf L.sizes back.lease) }
+        ensures ends { EndsHold back.lease.lb (cut_in result.0) self.old self.new account.old account.new }
     {
         self.site.count();
-        let cut = self.cut_first(back.lease.lb(), cuts);
+        let cut = self.cut_first(back.lease.lb(), &mut account.cuts);
         let done = self.take_back(back, account);
         (cut, done)
     }
@@ -244,12 +220,10 @@ impl<L: SiteName> Locked<L> {
         account: &mut Account<L>,
     ) -> Result<(), SiteStray<L>>
         requires lb { back.lease.lb < length L.sizes }
-        requires bytes { back.outcome.bytes ≤ MOST_BYTES }
         requires room { vec_len account.old.receipts < vec_capacity account.old.receipts }
         ensures ok { OnOk result (HoldReturns (hold_of self.old account.old) (hold_of self.new account.new) back.session back.at back.lease back.outcome) }
         ensures sited { AreSited L.sizes L.firsts self.old.books }
-        ensures stray { IfErr result (λ s. (s.lb ≡ back.lease.lb) × (s.stray.ticket ≡ back.lease.ticket)) }
-        ensures why { IfErr result (λ s. IsNotOut L.sizes None back.lease s.stray) }
+        ensures stray { IfErr result (IsStrayOf L.sizes back.lease) }
         ensures err { OnErr result (hold_of self.new account.new ≡ hold_of self.old account.old) }
         ensures few { account.new.share.amount ≤ MOST_ENTRIES }
         ensures kept { KeepsAccount account.old account.new }
@@ -278,9 +252,7 @@ impl<L: SiteName> Locked<L> {
     /// The balancer as it is now.
     pub(crate) fn look(&mut self, lb: u32, share: &mut Share<L>) -> Result<SiteView<L>, NoMemory>
         requires lb { lb < length L.sizes }
-        ensures lb { IfOk result (λ v. v.lb ≡ lb) }
-        ensures rows { IfOk result (λ v. length v.view.rows ≡ slice_index L.sizes lb) }
-        ensures present { IfOk result (λ v. (b : Journal) × IsFound L.sizes None lb b × IsPresent b.rules b.opening (past_of b) v.view) }
+        ensures ok { IfOk result (IsViewOf L.sizes lb) }
         ensures shown { IfOk result (λ v. At self.old.books lb (λ b. IsPresent b.rules b.opening (past_of b) v.view)) }
         ensures sited { AreSited L.sizes L.firsts self.old.books }
         ensures next { IfOk result (λ v. length L.sizes ≡ 1 → slice_index L.firsts lb + share.old.amount ≤ v.view.next) }

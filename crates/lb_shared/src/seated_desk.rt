@@ -12,7 +12,7 @@ use std::sync::Wait;
 /// A desk at a lock. After each call its seat is at that lock under its number, and has seen besides as its own just what the
 /// desk was told; and its shelf was only added to.
 pub trait SeatedDesk: Desk {
-    ghost use Rattle.std.specs.Prelude.{◌≡◌, ◌≤◌, ◌<◌, true, length, IfSome, IfOk, IfErr};
+    ghost use Rattle.std.specs.Prelude.{◌≡◌, ◌≤◌, ◌<◌, true, length, IfOk, IfErr};
     ghost use Rattle.lb_book.specs.Desks.{
       Chooses,
       Commands,
@@ -28,8 +28,9 @@ pub trait SeatedDesk: Desk {
       without_last,
     };
     ghost use Rattle.lb_model.specs.declared.journal.TheConstants.{MOST_BYTES};
-    ghost use Rattle.lb_shared.specs.Histories.{GoesOn, SeatNote};
-    ghost use Rattle.lb_shared.specs.Shelves.{ShelfNote, ShelvesOn};
+    ghost use Rattle.lb_shared.specs.Histories.{SeatNote};
+    ghost use Rattle.lb_shared.specs.SharedDesks.{GoesOnHere};
+    ghost use Rattle.lb_shared.specs.Shelves.{ShelfNote};
 
     ghost seat: { Self → SeatNote };
 
@@ -44,12 +45,10 @@ pub trait SeatedDesk: Desk {
         ask: &Ask,
     ) -> Result<Choice<Self::Lease>, RoomError<Self::Mark>>
         requires known { lb < length (Self.state self.old).sizes }
-        requires caller { IfSome (Self.state self.old).caller (λ n. session ≡ n) }
         ensures ok { IfOk result (λ c. Chooses Self.note (Self.state self.old) (Self.state self.new) lb session at ask.now c) }
         ensures err { IfErr result (λ e. RefusesChoice Self.numbers (Self.state self.old) (Self.state self.new) lb session at e) }
         ensures kept { KeepsDesk (Self.state self.old) (Self.state self.new) }
-        ensures gone { GoesOn (seat self.old) (Self.state self.old).receipts (seat self.new) (Self.state self.new).receipts }
-        ensures shelf { ShelvesOn (shelf self.old) (shelf self.new) };
+        ensures went { GoesOnHere Self.state seat shelf self.old self.new };
 
     /// As `hand_back`.
     fn hand_back_here(
@@ -59,7 +58,6 @@ pub trait SeatedDesk: Desk {
         lease: Self::Lease,
         outcome: Outcome,
     ) -> Result<(), Stray>
-        requires caller { IfSome (Self.state self.old).caller (λ n. session ≡ n) }
         requires held { holds (Self.state self.old).held (pair_of (Self.note lease)) ≡ true }
         requires bytes { outcome.bytes ≤ MOST_BYTES }
         ensures ok { IfOk result (λ _. TakesBack (Self.state self.old) (Self.state self.new) session at (Self.note lease) outcome) }
@@ -67,8 +65,7 @@ pub trait SeatedDesk: Desk {
         ensures held { (Self.state self.new).held ≡ without_last (Self.state self.old).held (pair_of (Self.note lease)) }
         ensures same { ((Self.state self.new).fulls ≡ (Self.state self.old).fulls) × ((Self.state self.new).wides ≡ (Self.state self.old).wides) }
         ensures kept { KeepsDesk (Self.state self.old) (Self.state self.new) }
-        ensures gone { GoesOn (seat self.old) (Self.state self.old).receipts (seat self.new) (Self.state self.new).receipts }
-        ensures shelf { ShelvesOn (shelf self.old) (shelf self.new) };
+        ensures went { GoesOnHere Self.state seat shelf self.old self.new };
 
     /// As `command`.
     fn command_here(
@@ -79,22 +76,19 @@ pub trait SeatedDesk: Desk {
         command: &Command,
     ) -> Result<(), AdminError<Self::Mark>>
         requires known { lb < length (Self.state self.old).sizes }
-        requires caller { IfSome (Self.state self.old).caller (λ n. session ≡ n) }
         ensures ok { IfOk result (λ _. Commands (Self.state self.old) (Self.state self.new) lb session at command.now) }
         ensures err { IfErr result (λ e. RefusesCommand Self.numbers (Self.state self.old) (Self.state self.new) lb session at command.now e) }
         ensures held { (Self.state self.new).held ≡ (Self.state self.old).held }
         ensures stray { MeetsNone (Self.state self.old) (Self.state self.new) }
         ensures kept { KeepsDesk (Self.state self.old) (Self.state self.new) }
-        ensures gone { GoesOn (seat self.old) (Self.state self.old).receipts (seat self.new) (Self.state self.new).receipts }
-        ensures shelf { ShelvesOn (shelf self.old) (shelf self.new) };
+        ensures went { GoesOnHere Self.state seat shelf self.old self.new };
 
     /// As `look`.
     fn look_here(&mut self, lb: u32) -> Result<Self::Shown, NoMemory>
         requires known { lb < length (Self.state self.old).sizes }
         ensures shown { IfOk result (λ shown. Shows (Self.state self.old) lb (Self.view shown)) }
         ensures same { Self.state self.new ≡ Self.state self.old }
-        ensures gone { GoesOn (seat self.old) (Self.state self.old).receipts (seat self.new) (Self.state self.new).receipts }
-        ensures shelf { ShelvesOn (shelf self.old) (shelf self.new) };
+        ensures went { GoesOnHere Self.state seat shelf self.old self.new };
 }
 
 impl<'s, 'r, L: SiteName, S: Shelf, R: Wait> SeatedDesk for SharedDesk<'s, 'r, L, S, R> {

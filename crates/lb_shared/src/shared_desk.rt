@@ -77,12 +77,11 @@ pub struct Leaving<L: SiteName, S> {
 }
 
 impl<'s, 'r, L: SiteName, S: Shelf, R> SharedDesk<'s, 'r, L, S, R> {
-    ghost use Rattle.std.specs.Prelude.{◌≡◌, ◌+◌, ◌<◌, ◌≤◌, ◌↔◌, [], None, true, length, IfErr, IfOk, IfSome, IsErr, IsOk, OnOk};
-    ghost use Rattle.lb_book.specs.Desks.{KeepsDesk, MeetsStray, TakesBack, holds, pair_of, without_last};
+    ghost use Rattle.std.specs.Prelude.{◌≡◌, ◌+◌, ◌<◌, ◌≤◌, [], None, true, length, IsErr};
+    ghost use Rattle.lb_book.specs.Desks.{holds, pair_of};
     ghost use Rattle.lb_model.specs.declared.journal.TheConstants.{MOST_BYTES};
-    ghost use Rattle.lb_shared.specs.Histories.{DeskSees, gained_in};
     ghost use Rattle.lb_shared.specs.Locks.{lock_of};
-    ghost use Rattle.lb_shared.specs.SharedDesks.{PutsAwayOf, SharedState, first_met, shared_desk, stray_in};
+    ghost use Rattle.lb_shared.specs.SharedDesks.{HandsBack, PutsAwayOf, SharedState, shared_desk, stray_in};
 
     /// A desk with a part of both ledgers, without a receipt or a ticket. It takes no memory.
     pub fn new(
@@ -154,22 +153,13 @@ impl<'s, 'r, L: SiteName, S: Shelf, R> SharedDesk<'s, 'r, L, S, R> {
     ) -> (Result<(), NoMemory>, Result<(), Stray>)
     where
         R: Wait,
-        requires caller { IfSome self.old.desk.caller (λ n. session ≡ n) }
         requires held { holds self.old.desk.held (pair_of lease) ≡ true }
         requires bytes { outcome.bytes ≤ MOST_BYTES }
-        ensures ok { IfOk result.1 (λ _. TakesBack self.old.desk self.new.desk session at lease outcome) }
-        ensures err { IfErr result.1 (λ stray. MeetsStray self.old.desk self.new.desk lease stray) }
-        ensures held { self.new.desk.held ≡ without_last self.old.desk.held (pair_of lease) }
-        ensures same { (self.new.desk.fulls ≡ self.old.desk.fulls) × (self.new.desk.wides ≡ self.old.desk.wides) }
-        ensures kept { KeepsDesk self.old.desk self.new.desk }
-        ensures counted { IsOk result.1 ↔ (self.new.desk.added ≡ self.old.desk.added + 1) }
+        ensures back { HandsBack L.starts self.old self.new session at lease outcome result.1 }
 
         // A segment that the hold cut is put away after it. It cuts exactly where the journal has come to its length and there
         // is memory for the cut.
         ensures shelf { PutsAwayOf S.shelved S.faults L.sizes L.cut_at lease.lb self.old self.new (IsErr result.0) }
-        ensures sees { DeskSees L.starts self.old.seat self.new.seat (gained_in self.old.desk.receipts self.new.desk.receipts) }
-        ensures none_met { OnOk result.1 (self.new.met ≡ self.old.met) }
-        ensures met { IfErr result.1 (λ stray. self.new.met ≡ first_met self.old.met (record { lb = lease.lb; stray = stray })) }
     {
         let before = self.stake.count();
         let admission = self
@@ -219,12 +209,15 @@ impl<'s, 'r, L: SiteName, S: Shelf, R> SharedDesk<'s, 'r, L, S, R> {
         let Stake {
             site: _,
             account,
-            cuts,
             forgotten,
             held: _,
             seat,
         } = stake;
-        let Account { share, receipts } = account;
+        let Account {
+            share,
+            cuts,
+            receipts,
+        } = account;
         Leaving {
             share,
             receipts: SiteReceiptList::from_vec(receipts),
@@ -237,25 +230,22 @@ impl<'s, 'r, L: SiteName, S: Shelf, R> SharedDesk<'s, 'r, L, S, R> {
 }
 
 impl<'s, 'r, L: SiteName, S: Shelf, R: Wait> Desk for SharedDesk<'s, 'r, L, S, R> {
-    ghost use Rattle.std.specs.Prelude.{◌≡◌, ◌+◌, ◌<◌, ◌≤◌, ◌↔◌, [], true, length, slice_index, IfSome, IfOk, IfErr, IsErrOf, IsOk, OnOk, ⊤};
+    ghost use Rattle.std.specs.Prelude.{◌≡◌, ◌+◌, ◌<◌, ◌≤◌, true, length, slice_index, IfOk, IfErr, IsErrOf, ⊤};
     ghost use Rattle.lb_book.specs.Desks.{
       Chooses,
       Commands,
       KeepsDesk,
       LeaseNote,
       MeetsNone,
-      MeetsStray,
       RefusesChoice,
       RefusesCommand,
       Shows,
-      TakesBack,
       holds,
       pair_of,
-      without_last,
     };
-    ghost use Rattle.lb_shared.specs.Histories.{DeskMaySee, DeskSees, IsPresentOf, cuts_seen, gained_in};
+    ghost use Rattle.lb_shared.specs.Histories.{DeskMaySee, LooksAt, gained_in};
     ghost use Rattle.lb_shared.specs.Holds.{IsAdminMark, IsRoomMark};
-    ghost use Rattle.lb_shared.specs.SharedDesks.{PutsAwayOf, first_met};
+    ghost use Rattle.lb_shared.specs.SharedDesks.{HandsBack, PutsAwayOf};
     ghost use Rattle.lb_model.specs.declared.journal.TheConstants.{MOST_BYTES};
 
     type Lease = SiteLease<L>;
@@ -280,7 +270,6 @@ impl<'s, 'r, L: SiteName, S: Shelf, R: Wait> Desk for SharedDesk<'s, 'r, L, S, R
         ask: &Ask,
     ) -> Result<Choice<SiteLease<L>>, RoomError<SiteMark<L>>>
         requires known { lb < length self.old.desk.sizes }
-        requires caller { IfSome self.old.desk.caller (λ n. session ≡ n) }
         ensures ok { IfOk result (λ c. Chooses (λ lease. lease) self.old.desk self.new.desk lb session at ask.now c) }
         ensures err { IfErr result (λ e. RefusesChoice (λ mark. mark.numbers) self.old.desk self.new.desk lb session at e) }
         ensures kept { KeepsDesk self.old.desk self.new.desk }
@@ -316,26 +305,13 @@ impl<'s, 'r, L: SiteName, S: Shelf, R: Wait> Desk for SharedDesk<'s, 'r, L, S, R
         lease: SiteLease<L>,
         outcome: Outcome,
     ) -> Result<(), Stray>
-        requires caller { IfSome self.old.desk.caller (λ n. session ≡ n) }
         requires held { holds self.old.desk.held (pair_of lease) ≡ true }
         requires bytes { outcome.bytes ≤ MOST_BYTES }
-        ensures ok { IfOk result (λ _. TakesBack self.old.desk self.new.desk session at lease outcome) }
-        ensures err { IfErr result (λ stray. MeetsStray self.old.desk self.new.desk lease stray) }
-        ensures held { self.new.desk.held ≡ without_last self.old.desk.held (pair_of lease) }
-        ensures same { (self.new.desk.fulls ≡ self.old.desk.fulls) × (self.new.desk.wides ≡ self.old.desk.wides) }
-        ensures kept { KeepsDesk self.old.desk self.new.desk }
-
-        // It is Ok exactly where an entry was counted.
-        ensures counted { IsOk result ↔ (self.new.desk.added ≡ self.old.desk.added + 1) }
+        ensures back { HandsBack L.starts self.old self.new session at lease outcome result }
 
         // A segment that the hold cut is put away after it. `take_back`, of which this is the second half of the answer, says when
         // it cuts.
         ensures shelf { PutsAwayOf S.shelved S.faults L.sizes L.cut_at lease.lb self.old self.new ⊤ }
-        ensures sees { DeskSees L.starts self.old.seat self.new.seat (gained_in self.old.desk.receipts self.new.desk.receipts) }
-
-        // The first stray is kept until it is taken.
-        ensures none_met { OnOk result (self.new.met ≡ self.old.met) }
-        ensures met { IfErr result (λ stray. self.new.met ≡ first_met self.old.met (record { lb = lease.lb; stray = stray })) }
     {
         self.take_back(session, at, lease, outcome).1
     }
@@ -348,7 +324,6 @@ impl<'s, 'r, L: SiteName, S: Shelf, R: Wait> Desk for SharedDesk<'s, 'r, L, S, R
         command: &Command,
     ) -> Result<(), AdminError<SiteMark<L>>>
         requires known { lb < length self.old.desk.sizes }
-        requires caller { IfSome self.old.desk.caller (λ n. session ≡ n) }
         ensures ok { IfOk result (λ _. Commands self.old.desk self.new.desk lb session at command.now) }
         ensures err { IfErr result (λ e. RefusesCommand (λ mark. mark.numbers) self.old.desk self.new.desk lb session at command.now e) }
         ensures held { self.new.desk.held ≡ self.old.desk.held }
@@ -379,10 +354,7 @@ impl<'s, 'r, L: SiteName, S: Shelf, R: Wait> Desk for SharedDesk<'s, 'r, L, S, R
         ensures same { self.new ≡ record self.old { seat = self.new.seat } }
 
         // The view is that of the history that the desk has seen then. A look cuts nothing.
-        ensures sees { DeskSees L.starts self.old.seat self.new.seat [] }
-        ensures marks { cuts_seen self.new.seat ≡ cuts_seen self.old.seat }
-        ensures starts { self.new.seat.starts ≡ self.old.seat.starts }
-        ensures whole { IfOk result (IsPresentOf L.starts self.new.seat.seen lb) }
+        ensures looks { LooksAt L.starts self.old.seat self.new.seat lb result }
 
         // Where there is one balancer, all entries of the desk come before the next one.
         ensures next { IfOk result (λ shown. length self.old.desk.sizes ≡ 1

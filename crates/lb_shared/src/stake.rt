@@ -5,7 +5,7 @@ ghost use Rattle.lb_book.specs.Desks.{is_pair, without_last};
 ghost use Rattle.lb_shared.specs.SharedDesks.{IsLastPlace, pairs_of};
 
 use crate::account::Account;
-use crate::ledgers::{CutLedger, DeskShare};
+use crate::ledgers::DeskShare;
 use crate::locked::{Cut, CutBack, HandedBack};
 use crate::shared_site::SharedSite;
 use crate::shelf::Admission;
@@ -17,15 +17,12 @@ use lb_model::{AdminError, Ask, Command, RoomError};
 use std::alloc::Global;
 use std::marker::Model;
 use std::sync::Wait;
-use std::sync::ledger::Share;
 
-/// A part of the ledger with the receipts of what it counts, as much of the ledger of the cuts, the tickets that are out, and a seat
-/// at the lock.
+/// A part of both ledgers with the receipts of what it counts, the tickets that are out, and a seat at the lock.
 #[derive(Drop)]
 pub(crate) struct Stake<'s, 'r, L: SiteName, R> {
     pub(crate) site: &'s SharedSite<'r, L, R>,
     pub(crate) account: Account<L>,
-    pub(crate) cuts: Share<CutLedger<L>>,
     /// How many receipts were dropped, which stay counted.
     pub(crate) forgotten: u64,
     /// Balancer and ticket of each lease that is out, in the order of the choices.
@@ -52,27 +49,23 @@ impl<'s, 'r, L: SiteName, R> Model for Stake<'s, 'r, L, R> {
     } };
 
     // Each entry of the share has a receipt, or had one that was forgotten; there is room for the receipts of the Returns to come;
-    // and the seat, which rests at the Site's lock, has seen as its own as many entries, and as many cuts as the other share counts.
+    // and the seat, which rests at the Site's lock, has seen as its own as many entries, and as many cuts as it counts.
     ghost invariant = { λ s. IsShared (length L.sizes) s.account.receipts.items s.held.items s.account.share.parts s.account.share.amount s.forgotten
         (vec_capacity s.account.receipts)
         × (s.seat.table_id ≡ s.site.now.lock.table.shared.table_id) × IsResting s.seat.me
         × (own_count (seat_note L.starts s.seat.table_id s.seat.me) ≡ s.account.share.amount)
-        × (cut_count (seat_note L.starts s.seat.table_id s.seat.me) ≡ s.cuts.amount) × (s.cuts.parts ≡ s.account.share.parts) };
+        × (cut_count (seat_note L.starts s.seat.table_id s.seat.me) ≡ s.account.cuts.amount) };
 }
 
 impl<'s, 'r, L: SiteName, R> Stake<'s, 'r, L, R> {
-    ghost use Rattle.std.specs.Prelude.{◌≡◌, ◌+◌, ◌<◌, ◌≤◌, [], None, true, length, slice_index, IfOk, IfErr, IsErr, IsErrOf, OnOk, OnErr};
-    ghost use Rattle.lb_model.specs.Present.{IsPresent};
-    ghost use Rattle.lb_book.specs.Desks.{IsNotOut, holds, pair_of, without_last};
-    ghost use Rattle.lb_book.specs.Journal.{Journal, past_of};
-    ghost use Rattle.lb_book.specs.ToldBooks.{IsFound};
-    ghost use Rattle.lb_shared.specs.Histories.{DeskMaySee, DeskSees, IsPresentOf, MayCut, cuts_seen, gained_in};
+    ghost use Rattle.std.specs.Prelude.{◌≡◌, ◌+◌, ◌<◌, ◌≤◌, [], true, length, slice_index, IfOk, IfErr, IsErr, IsErrOf, OnOk, OnErr};
+    ghost use Rattle.lb_book.specs.Desks.{holds, pair_of, without_last};
+    ghost use Rattle.lb_shared.specs.Histories.{DeskMaySee, DeskSees, LooksAt, MayCut, gained_in};
     ghost use Rattle.lb_shared.specs.Holds.{IsAdminMark, IsRoomMark, cut_in};
     ghost use Rattle.lb_shared.specs.Locks.{lock_of};
-    ghost use Rattle.lb_shared.specs.SharedDesks.{CutsFor};
-    ghost use Rattle.lb_shared.specs.Shelves.{for_call, for_return};
-    ghost use Rattle.lb_shared.specs.Stakes.{KeepsStake, StakeChooses, StakeCommands, StakeDenies, StakeRefuses, StakeTakesBack};
-    ghost use Rattle.lb_model.specs.declared.journal.TheConstants.{MOST_BYTES};
+    ghost use Rattle.lb_shared.specs.SharedDesks.{CutsFor, IsStrayOf, IsViewOf, MayCall};
+    ghost use Rattle.lb_shared.specs.Shelves.{for_return};
+    ghost use Rattle.lb_shared.specs.Stakes.{KeepsInCall, KeepsStake, StakeChooses, StakeCommands, StakeDenies, StakeRefuses, StakeTakesBack};
 
     /// A stake with a part of both ledgers that counts nothing.
     pub(crate) fn new(
@@ -92,9 +85,9 @@ impl<'s, 'r, L: SiteName, R> Stake<'s, 'r, L, R> {
             site,
             account: Account {
                 share,
+                cuts,
                 receipts: Vec::new(alloc),
             },
-            cuts,
             forgotten: 0,
             held: Vec::new(alloc),
             seat: site.lock.seat(),
@@ -133,17 +126,14 @@ impl<'s, 'r, L: SiteName, R> Stake<'s, 'r, L, R> {
     ) -> Cut<L, Result<Choice<SiteLease<L>>, RoomError<SiteMark<L>>>>
     where
         R: Wait,
-        requires known { on.lb < length L.sizes }
-        requires admitted { admission.now ≡ for_call on.lb }
+        requires call { MayCall L.sizes on.lb admission.now }
         ensures ok { IfOk result.1 (StakeChooses L.sizes self.old self.new on ask.now) }
         ensures err { IfErr result.1 (StakeDenies L.sizes self.old self.new on) }
         ensures held { OnErr result.1 (self.new.held ≡ self.old.held) }
         ensures mark { IfErr result.1 (IsRoomMark on.lb 2) }
         ensures cuts { CutsFor L.sizes L.cut_at on.lb result.0 self.old.receipts self.new.receipts (IsErrOf result.1 RoomError.NoMemory) }
         ensures sees { DeskMaySee L.starts self.old.seat self.new.seat (gained_in self.old.receipts self.new.receipts) (IsErrOf result.1 RoomError.NoMemory) }
-        ensures marks { MayCut self.old.seat self.new.seat result.0 }
-        ensures two { length self.new.receipts ≤ length self.old.receipts + 2 }
-        ensures kept { KeepsStake self.old self.new }
+        ensures kept { KeepsInCall self.old self.new result.0 }
     {
         match take_room(&mut self.account, &mut self.held) {
             Ok(()) => {}
@@ -151,7 +141,7 @@ impl<'s, 'r, L: SiteName, R> Stake<'s, 'r, L, R> {
         }
         self.site.lock.enter(self.site.rt, &mut self.seat);
         let done = match self.seat.slot_mut(&self.site.lock.table.shared, 0) {
-            Some(locked) => locked.choose(on, ask, &mut self.account, &mut self.cuts),
+            Some(locked) => locked.choose(on, ask, &mut self.account),
             None => unreachable!(),
         };
         self.site.lock.leave(&mut self.seat);
@@ -168,17 +158,14 @@ impl<'s, 'r, L: SiteName, R> Stake<'s, 'r, L, R> {
     ) -> Cut<L, Result<(), AdminError<SiteMark<L>>>>
     where
         R: Wait,
-        requires known { on.lb < length L.sizes }
-        requires admitted { admission.now ≡ for_call on.lb }
+        requires call { MayCall L.sizes on.lb admission.now }
         ensures ok { OnOk result.1 (StakeCommands L.sizes self.old self.new on command.now) }
         ensures err { IfErr result.1 (StakeRefuses L.sizes self.old self.new on command.now) }
         ensures held { self.new.held ≡ self.old.held }
         ensures mark { IfErr result.1 (IsAdminMark on.lb) }
         ensures cuts { CutsFor L.sizes L.cut_at on.lb result.0 self.old.receipts self.new.receipts (IsErrOf result.1 AdminError.NoMemory) }
         ensures sees { DeskMaySee L.starts self.old.seat self.new.seat (gained_in self.old.receipts self.new.receipts) (IsErrOf result.1 AdminError.NoMemory) }
-        ensures marks { MayCut self.old.seat self.new.seat result.0 }
-        ensures two { length self.new.receipts ≤ length self.old.receipts + 2 }
-        ensures kept { KeepsStake self.old self.new }
+        ensures kept { KeepsInCall self.old self.new result.0 }
     {
         match self.account.reserve(self.held.len() + 2) {
             Ok(()) => {}
@@ -186,7 +173,7 @@ impl<'s, 'r, L: SiteName, R> Stake<'s, 'r, L, R> {
         }
         self.site.lock.enter(self.site.rt, &mut self.seat);
         let done = match self.seat.slot_mut(&self.site.lock.table.shared, 0) {
-            Some(locked) => locked.command(on, command, &mut self.account, &mut self.cuts),
+            Some(locked) => locked.command(on, command, &mut self.account),
             None => unreachable!(),
         };
         self.site.lock.leave(&mut self.seat);
@@ -199,12 +186,10 @@ impl<'s, 'r, L: SiteName, R> Stake<'s, 'r, L, R> {
         R: Wait,
         requires admitted { admission.now ≡ for_return back.lease.lb }
         requires held { holds self.old.held (pair_of back.lease) ≡ true }
-        requires bytes { back.outcome.bytes ≤ MOST_BYTES }
         ensures ok { OnOk result.1 (StakeTakesBack L.sizes self.old self.new back) }
         ensures amount { OnOk result.1 (self.new.amount ≡ self.old.amount + 1) }
         ensures err { OnErr result.1 ((self.new.receipts ≡ self.old.receipts) × (self.new.amount ≡ self.old.amount)) }
-        ensures stray { IfErr result.1 (λ s. (s.lb ≡ back.lease.lb) × (s.stray.ticket ≡ back.lease.ticket)) }
-        ensures why { IfErr result.1 (λ s. IsNotOut L.sizes None back.lease s.stray) }
+        ensures stray { IfErr result.1 (IsStrayOf L.sizes back.lease) }
         ensures held { self.new.held ≡ without_last self.old.held (pair_of back.lease) }
         ensures cuts { CutsFor L.sizes L.cut_at back.lease.lb (cut_in result.0) self.old.receipts self.new.receipts (IsErr result.0) }
         ensures sees { DeskSees L.starts self.old.seat self.new.seat (gained_in self.old.receipts self.new.receipts) }
@@ -215,7 +200,7 @@ impl<'s, 'r, L: SiteName, R> Stake<'s, 'r, L, R> {
         let (lb, ticket) = (back.lease.lb(), back.lease.ticket());
         self.site.lock.enter(self.site.rt, &mut self.seat);
         let done = match self.seat.slot_mut(&self.site.lock.table.shared, 0) {
-            Some(locked) => locked.give_back(back, &mut self.account, &mut self.cuts),
+            Some(locked) => locked.give_back(back, &mut self.account),
             None => unreachable!(),
         };
         self.site.lock.leave(&mut self.seat);
@@ -228,14 +213,9 @@ impl<'s, 'r, L: SiteName, R> Stake<'s, 'r, L, R> {
     where
         R: Wait,
         requires known { lb < length L.sizes }
-        ensures lb { IfOk result (λ v. v.lb ≡ lb) }
-        ensures rows { IfOk result (λ v. length v.view.rows ≡ slice_index L.sizes lb) }
-        ensures present { IfOk result (λ v. (b : Journal) × IsFound L.sizes None lb b × IsPresent b.rules b.opening (past_of b) v.view) }
-        ensures whole { IfOk result (IsPresentOf L.starts self.new.seat.seen lb) }
+        ensures ok { IfOk result (IsViewOf L.sizes lb) }
         ensures next { IfOk result (λ v. length L.sizes ≡ 1 → slice_index L.firsts lb + self.old.amount ≤ v.view.next) }
-        ensures sees { DeskSees L.starts self.old.seat self.new.seat [] }
-        ensures marks { cuts_seen self.new.seat ≡ cuts_seen self.old.seat }
-        ensures starts { self.new.seat.starts ≡ self.old.seat.starts }
+        ensures looks { LooksAt L.starts self.old.seat self.new.seat lb result }
         ensures same { self.new ≡ record self.old { seat = self.new.seat } }
     {
         self.site.lock.enter(self.site.rt, &mut self.seat);
@@ -254,7 +234,7 @@ fn take_room<L: SiteName>(
     held: &mut Vec<(u32, u64)>,
 ) -> Result<(), NoMemory>
     ensures receipts { account.new.receipts.items ≡ account.old.receipts.items }
-    ensures share { account.new.share ≡ account.old.share }
+    ensures share { (account.new.share ≡ account.old.share) × (account.new.cuts ≡ account.old.cuts) }
     ensures held { held.new.items ≡ held.old.items }
     ensures room { OnOk result (vec_len account.old.receipts + vec_len held.old + 3 ≤ vec_capacity account.new.receipts) }
     ensures one { OnOk result (vec_len held.old < vec_capacity held.new) }

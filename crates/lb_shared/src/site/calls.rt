@@ -18,7 +18,7 @@ impl<L: SiteName> Site<L> {
     ghost use Rattle.lb_rules.specs.Returns.{IsReturnedAt};
     ghost use Rattle.lb_book.specs.ToldBooks.{IsNoneDue};
     ghost use Rattle.lb_shared.specs.Notes.{lease_of};
-    ghost use Rattle.lb_shared.specs.Sites.{AddsAt, At};
+    ghost use Rattle.lb_shared.specs.Sites.{AddsAt, At, LeavesSite};
     ghost use Rattle.lb_shared.specs.SiteAnswers.{IsCommandedAt, IsMaintenanceAt, IsRoomAt};
     ghost use Rattle.lb_model.specs.declared.journal.TheConstants.{MOST_BYTES};
 
@@ -42,13 +42,10 @@ impl<L: SiteName> Site<L> {
         // A chosen member is one of the balancer's, and wasn't tried.
         ensures member { IfOk result (λ picked. IfSome picked.lease (λ lease.
             (lease.member < slice_index L.sizes lb) × (is_in ask.now.tried lease.member ≡ false))) }
-        ensures sound { At self.new lb IsSound }
 
         // Full comes exactly where no two numbers are left for the entry and its ticket's Return.
         ensures full { At self.old lb (λ b. IsRoomAt lb 2 b result) }
-        ensures err { OnErr result (self.new ≡ self.old) }
-        ensures amount { MatchResult result (λ _. share.new.amount ≡ share.old.amount + 1) (λ _. share.new.amount ≡ share.old.amount) }
-        ensures parts { share.new.parts ≡ share.old.parts }
+        ensures leaves { LeavesSite lb self.old self.new share.old share.new result }
     {
         match self.books[lb as usize].select(session, at, ask) {
             Ok(Picked { entry, lease }) => {
@@ -76,14 +73,11 @@ impl<L: SiteName> Site<L> {
         requires part { 0 < share.old.parts }
         ensures found { At self.old lease.lb (λ b. IsOk result ↔ (is_out b.opening (past_of b) lease.ticket ≡ true)) }
         ensures ok { IfOk result (λ r. AddsAt self.old self.new lease.lb session at (Call.Return lease.ticket outcome) r) }
-        ensures sound { At self.new lease.lb IsSound }
 
         // A ticket that isn't out is a stray.
         ensures stray { IfErr result (λ s. (s.lb ≡ lease.lb) × (s.stray.ticket ≡ lease.ticket)) }
         ensures returned { IfErr result (λ s. At self.old lease.lb (λ b. IsReturnedAt (past_of b) lease.ticket s.stray.returned_at)) }
-        ensures err { OnErr result (self.new ≡ self.old) }
-        ensures amount { MatchResult result (λ _. share.new.amount ≡ share.old.amount + 1) (λ _. share.new.amount ≡ share.old.amount) }
-        ensures parts { share.new.parts ≡ share.old.parts }
+        ensures leaves { LeavesSite lease.lb self.old self.new share.old share.new result }
     {
         let SiteLease {
             lb,
@@ -151,13 +145,10 @@ impl<L: SiteName> Site<L> {
         requires none_due { At self.old lb (λ b. IsNoneDue b at) }
         requires part { 0 < share.old.parts }
         ensures ok { IfOk result (λ r. AddsAt self.old self.new lb session at (Call.Admin command.now) r) }
-        ensures sound { At self.new lb IsSound }
 
         // The first refusal that holds is the answer; where none holds, an entry is added.
         ensures commanded { At self.old lb (λ b. IsCommandedAt lb b command.now result) }
-        ensures err { OnErr result (self.new ≡ self.old) }
-        ensures amount { MatchResult result (λ _. share.new.amount ≡ share.old.amount + 1) (λ _. share.new.amount ≡ share.old.amount) }
-        ensures parts { share.new.parts ≡ share.old.parts }
+        ensures leaves { LeavesSite lb self.old self.new share.old share.new result }
     {
         match self.books[lb as usize].admin(session, at, command) {
             Ok(entry) => {

@@ -15,7 +15,7 @@ returns-clause-ok g c =
     (held c.maintain_first.new.site c.maintain_first.new.account.receipts.items c.maintain_first.new.account.share.amount)
     (held c.select.new.self c.note.new.receipts.items c.select.new.share.amount) c.args.on.lb c.args.on.session c.args.on.at c.args.ask.now
     c.in_ok-receipt.field-0.receipt c.choice_of.result c.in_ok-maintain_first.ensures.due c.in_ok-receipt.ensures.ok c.note.ensures.items
-    c.in_ok-receipt.ensures.amount c.in_ok-receipt.ensures.pick
+    c.in_ok-receipt.ensures.leaves.amount c.in_ok-receipt.ensures.pick
     (subst (λ (l : Option LeaseNote). IfSome l (λ lease. (lease.member < slice_index g.L.SiteName.sizes c.args.on.lb) × (is_in c.args.ask.now.tried lease.member ≡ false)))
     c.in_ok-receipt.ensures.lease c.in_ok-receipt.ensures.member)
     (subst (λ (r : Receipt). IsSiteChoice c.args.on.lb r.entry.answer c.choice_of.result) c.receipt.ensures c.choice_of.ensures)
@@ -33,5 +33,5 @@ returns-in_err-receipt-clause-err g c =
     let mid = held c.maintain_first.new.site c.maintain_first.new.account.receipts.items c.maintain_first.new.account.share.amount in
     of_error c.from_residual-in_err-receipt.result c.in_err-receipt.field-0.0 _ c.from_residual-in_err-receipt.ensures.1
     (denied_after old mid c.select.new.self c.select.new.share.amount c.args.on.lb c.args.on.session c.args.on.at _ _ c.in_ok-maintain_first.ensures.due
-    c.in_err-receipt.ensures.err c.in_err-receipt.ensures.amount
+    c.in_err-receipt.ensures.leaves.err c.in_err-receipt.ensures.leaves.amount
     (ask_account old mid c.args.on.lb c.args.on.session c.args.on.at c.in_ok-maintain_first.ensures.due c.in_err-receipt.field-0.0 c.in_err-receipt.ensures.full))

@@ -22,7 +22,7 @@ returns-clause-ok g c =
     commands g.L.SiteName.sizes g.L.SiteName.firsts (held c.args.site.now c.args.account.now.receipts.items c.args.account.now.share.amount)
     (held c.maintain_first.new.site c.maintain_first.new.account.receipts.items c.maintain_first.new.account.share.amount)
     (held c.admin.new.self c.note.new.receipts.items c.admin.new.share.amount) c.args.on.lb c.args.on.session c.args.on.at c.args.command.now
-    c.in_ok-receipt.receipt (c.in-Ok.ensures.due) c.count.ensures.named c.in_ok-receipt.ensures.ok c.note.ensures.items c.in_ok-receipt.ensures.amount c.in_ok-receipt.ensures.commanded
+    c.in_ok-receipt.receipt (c.in-Ok.ensures.due) c.count.ensures.named c.in_ok-receipt.ensures.ok c.note.ensures.items c.in_ok-receipt.ensures.leaves.amount c.in_ok-receipt.ensures.commanded
 
 pub returns-in_err-receipt-clause-err : goal.returns-in_err-receipt-clause-err
 returns-in_err-receipt-clause-err g c =
@@ -30,7 +30,7 @@ returns-in_err-receipt-clause-err g c =
     let mid = held c.maintain_first.new.site c.maintain_first.new.account.receipts.items c.maintain_first.new.account.share.amount in
     of_error c.from_residual.result c.in_err-receipt.field-0.0 _ c.from_residual.ensures.1
     (denied_after old mid c.admin.new.self c.admin.new.share.amount c.args.on.lb c.args.on.session c.args.on.at _ _ c.in-Ok.ensures.due
-    c.in_err-receipt.ensures.err c.in_err-receipt.ensures.amount
+    c.in_err-receipt.ensures.leaves.err c.in_err-receipt.ensures.leaves.amount
     (command_account old mid c.args.on.lb c.args.on.session c.args.on.at c.in-Ok.ensures.due c.args.command.now c.in_err-receipt.field-0.0 c.in_err-receipt.ensures.commanded))
 
 pub returns-in_err-receipt-clause-mark : goal.returns-in_err-receipt-clause-mark

@@ -69,7 +69,13 @@ returns-clause-err g c =
           (sym c.audit-2.ensures.same) (sym c.audit-2.ensures.amount) is,
     )) c.command_in-done.ensures.err
 
-pub returns-in-Err-clause-news : goal.returns-in-Err-clause-news
-returns-in-Err-clause-news g c =
+pub returns-in-Err-clause-ends : goal.returns-in-Err-clause-ends
+returns-in-Err-clause-ends g c =
     let none : 0 ≡ length c.args.account.now.receipts.items - length c.args.account.now.receipts.items = omega arith in
-    (ap (λ (s : LockedState). s.lb) c.in-Err.ensures.err, ap (λ (s : LockedState). s.count) c.in-Err.ensures.err ∙ none, ap (λ (s : LockedState). s.cut) c.in-Err.ensures.err, ap (λ (s : LockedState). s.cuts) c.in-Err.ensures.err ∙ ap (λ (s : LockedState). s.cuts) c.self.view_is)
+    record {
+      news = (ap (λ (s : LockedState). s.lb) c.in-Err.ensures.err, ap (λ (s : LockedState). s.count) c.in-Err.ensures.err ∙ none, ap (λ (s : LockedState). s.cut) c.in-Err.ensures.err, ap (λ (s : LockedState). s.cuts) c.in-Err.ensures.err ∙ ap (λ (s : LockedState). s.cuts) c.self.view_is);
+      parts = c.audit.ensures.parts;
+      room = omega arith;
+      counted = c.in-Err.ensures.amount;
+      few = omega (arith, c.audit.ensures.within, c.audit.ensures.few, c.audit.ensures.amount);
+    }

@@ -2,14 +2,18 @@
 use Rattle.std.proofs.Common.{◌≤◌, List, sym, subst}
 use Rattle.lb_book.specs.Journal.{Journal}
 use Rattle.lb_shared.specs.Sites.{added_in}
-use Rattle.lb_shared.proofs.LockLaws.{if_ok, look_next, look_present, look_rows, sited_within}
+use Rattle.lb_shared.proofs.LockLaws.{both_ok, if_ok, look_next, look_present, look_rows, sited_within}
 use Rattle.lb_shared.proofs.locked.Locked.look.Goals as goal
 
-pub returns-clause-rows : goal.returns-clause-rows
-returns-clause-rows g c =
-    if_ok c.view.result _ _
-    (λ v present. look_rows g.L.SiteName.sizes g.L.SiteName.firsts c.audit.new.self c.args.lb v.view c.audit.ensures.named (sited_within g.L.SiteName.sizes g.L.SiteName.firsts c.audit.new.self c.args.lb c.audit.ensures.named c.requires.lb) present)
-    c.view.ensures.present
+pub returns-clause-ok : goal.returns-clause-ok
+returns-clause-ok g c =
+    let within = sited_within g.L.SiteName.sizes g.L.SiteName.firsts c.audit.new.self c.args.lb c.audit.ensures.named c.requires.lb in
+    both_ok c.view.result _ _ _
+    (λ v of present. record {
+      of = of;
+      rows = look_rows g.L.SiteName.sizes g.L.SiteName.firsts c.audit.new.self c.args.lb v.view c.audit.ensures.named within present;
+      present = look_present g.L.SiteName.sizes g.L.SiteName.firsts c.audit.new.self c.args.lb v.view c.audit.ensures.named within present;
+    }) c.view.ensures.lb c.view.ensures.present
 
 pub returns-clause-next : goal.returns-clause-next
 returns-clause-next g c =
@@ -17,11 +21,4 @@ returns-clause-next g c =
     if_ok c.view.result _ _
     (λ v present. look_next g.L.SiteName.sizes g.L.SiteName.firsts c.audit.new.self c.args.lb c.args.share.now.amount v.view c.audit.ensures.named
     (sited_within g.L.SiteName.sizes g.L.SiteName.firsts c.audit.new.self c.args.lb c.audit.ensures.named c.requires.lb) most present)
-    c.view.ensures.present
-
-pub returns-clause-present : goal.returns-clause-present
-returns-clause-present g c =
-    if_ok c.view.result _ _
-    (λ v present. look_present g.L.SiteName.sizes g.L.SiteName.firsts c.audit.new.self c.args.lb v.view c.audit.ensures.named
-    (sited_within g.L.SiteName.sizes g.L.SiteName.firsts c.audit.new.self c.args.lb c.audit.ensures.named c.requires.lb) present)
     c.view.ensures.present

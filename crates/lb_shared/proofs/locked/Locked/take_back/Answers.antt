@@ -16,7 +16,7 @@ invariant_of-self-2 g c = (
   c.self.invariant.0,
   subst (λ (xs : List Journal). AreShort c.self.inside.cut_at xs) (sym c.audit.ensures.same)
       (short_back c.self.inside.cut_at c.self.inside.site c.give_back-done.new.self c.args.back.lease.lb c.args.back.session c.args.back.at c.args.back.lease.ticket c.args.back.outcome c.give_back-done.result
-      c.self.invariant.1 c.give_back-done.ensures.ok c.give_back-done.ensures.err c.count.ensures.named.sound),
+      c.self.invariant.1 c.give_back-done.ensures.ok c.give_back-done.ensures.leaves.err c.count.ensures.named.sound),
 )
 
 pub returns-clause-ok : goal.returns-clause-ok
@@ -30,15 +30,18 @@ returns-clause-ok g c =
       adds.called,
       gains_one (held c.args.self.now.books c.args.account.now.receipts.items c.args.account.now.share.amount) (held c.audit.new.self c.note.new.receipts.items c.audit.new.share.amount)
           c.args.back.lease.lb c.args.back.session c.args.back.at (call.Return c.args.back.lease.ticket c.args.back.outcome) c.in_ok-done.field-0 adds c.note.ensures.items
-          (c.audit.ensures.amount ∙ c.in_ok-done.ensures.amount),
+          (c.audit.ensures.amount ∙ c.in_ok-done.ensures.leaves.amount),
     )
 
-pub returns-in_err-done-clause-why : goal.returns-in_err-done-clause-why
-returns-in_err-done-clause-why g c =
+pub returns-in_err-done-clause-stray : goal.returns-in_err-done-clause-stray
+returns-in_err-done-clause-stray g c =
     of_error c.from_residual.result c.in_err-done.field-0.0 _ c.from_residual.ensures.1
-    (not_out_at {T = Receipt} g.L.SiteName.sizes g.L.SiteName.firsts c.self.inside.site c.args.back.lease (Err c.in_err-done.field-0.0) c.count.ensures.named
-    (sited_within g.L.SiteName.sizes g.L.SiteName.firsts c.self.inside.site c.args.back.lease.lb c.count.ensures.named c.requires.lb)
-    c.in_err-done.ensures.found c.in_err-done.ensures.returned)
+    (record {
+      of = c.in_err-done.ensures.stray;
+      why = not_out_at {T = Receipt} g.L.SiteName.sizes g.L.SiteName.firsts c.self.inside.site c.args.back.lease (Err c.in_err-done.field-0.0) c.count.ensures.named
+          (sited_within g.L.SiteName.sizes g.L.SiteName.firsts c.self.inside.site c.args.back.lease.lb c.count.ensures.named c.requires.lb)
+          c.in_err-done.ensures.found c.in_err-done.ensures.returned;
+    })
 
 pub returns-clause-news : goal.returns-clause-news
 returns-clause-news g c =

@@ -14,7 +14,7 @@ returns-clause-err g c =
 
 pub returns-clause-kept : goal.returns-clause-kept
 returns-clause-kept g c =
-    rw (sym c.self.view_is) (full_kept g.L.SiteName.sizes c.self.inside.stake.parts c.choose-segment.new.self.parts c.self.inside.stake.receipts c.choose-segment.new.self.receipts c.self.inside.stake.held c.choose-segment.new.self.held c.self.inside.stake.amount c.choose-segment.new.self.amount c.self.inside.strays c.self.inside.fulls c.count_full.new.fulls c.self.inside.wides c.self.inside.wides (stray_in c.self.inside.met) c.args.lb c.args.session c.args.at c.choose-segment.ensures.kept.0 c.count_full.ensures.no_fewer)
+    rw (sym c.self.view_is) (full_kept g.L.SiteName.sizes c.self.inside.stake.parts c.choose-segment.new.self.parts c.self.inside.stake.receipts c.choose-segment.new.self.receipts c.self.inside.stake.held c.choose-segment.new.self.held c.self.inside.stake.amount c.choose-segment.new.self.amount c.self.inside.strays c.self.inside.fulls c.count_full.new.fulls c.self.inside.wides c.self.inside.wides (stray_in c.self.inside.met) c.args.lb c.args.session c.args.at c.choose-segment.ensures.kept.stake.0 c.count_full.ensures.no_fewer)
 
 pub returns-clause-shelf : goal.returns-clause-shelf
 returns-clause-shelf g c =
@@ -24,9 +24,9 @@ returns-clause-shelf g c =
       when = c.choose-segment.ensures.cuts.when;
       next = c.choose-segment.ensures.cuts.next;
       put = c.put_away.ensures;
-      told = c.choose-segment.ensures.marks;
-      starts = c.choose-segment.ensures.kept.2;
-      forgotten = c.choose-segment.ensures.kept.1;
+      told = c.choose-segment.ensures.kept.marks;
+      starts = c.choose-segment.ensures.kept.stake.2;
+      forgotten = c.choose-segment.ensures.kept.stake.1;
     })
 
 pub returns-clause-sees : goal.returns-clause-sees

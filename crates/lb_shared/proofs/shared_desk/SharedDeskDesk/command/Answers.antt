@@ -14,7 +14,7 @@ returns-clause-err g c =
 
 pub returns-clause-kept : goal.returns-clause-kept
 returns-clause-kept g c =
-    rw (sym c.self.view_is) (refusal_kept g.L.SiteName.sizes c.self.inside.stake.parts c.command-segment.new.self.parts c.self.inside.stake.receipts c.command-segment.new.self.receipts c.self.inside.stake.held c.command-segment.new.self.held c.self.inside.stake.amount c.command-segment.new.self.amount c.self.inside.strays c.self.inside.fulls c.count_refusal.new.fulls c.self.inside.wides c.count_refusal.new.wides (stray_in c.self.inside.met) c.args.lb c.args.session c.args.at c.command-segment.ensures.kept.0 c.count_refusal.ensures.no_fewer.0 c.count_refusal.ensures.no_fewer.1)
+    rw (sym c.self.view_is) (refusal_kept g.L.SiteName.sizes c.self.inside.stake.parts c.command-segment.new.self.parts c.self.inside.stake.receipts c.command-segment.new.self.receipts c.self.inside.stake.held c.command-segment.new.self.held c.self.inside.stake.amount c.command-segment.new.self.amount c.self.inside.strays c.self.inside.fulls c.count_refusal.new.fulls c.self.inside.wides c.count_refusal.new.wides (stray_in c.self.inside.met) c.args.lb c.args.session c.args.at c.command-segment.ensures.kept.stake.0 c.count_refusal.ensures.no_fewer.0 c.count_refusal.ensures.no_fewer.1)
 
 pub returns-clause-shelf : goal.returns-clause-shelf
 returns-clause-shelf g c =
@@ -24,9 +24,9 @@ returns-clause-shelf g c =
       when = c.command-segment.ensures.cuts.when;
       next = c.command-segment.ensures.cuts.next;
       put = c.put_away.ensures;
-      told = c.command-segment.ensures.marks;
-      starts = c.command-segment.ensures.kept.2;
-      forgotten = c.command-segment.ensures.kept.1;
+      told = c.command-segment.ensures.kept.marks;
+      starts = c.command-segment.ensures.kept.stake.2;
+      forgotten = c.command-segment.ensures.kept.stake.1;
     })
 
 pub returns-clause-sees : goal.returns-clause-sees

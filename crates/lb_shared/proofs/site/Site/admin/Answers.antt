@@ -1,5 +1,5 @@
 -- The Book's command, told of its balancer.
-use Rattle.std.proofs.Common.{◌≡◌, ℕ, List, Some, sym, subst}
+use Rattle.std.proofs.Common.{◌≡◌, ℕ, List, Some, sym, subst, refl}
 use Rattle.std.specs.Prelude.{Err, slice_get, slice_set}
 use Rattle.lb_model.specs.Legal.{IsDoable}
 use Rattle.lb_model.specs.declared.journal.Call.TheVariants as call
@@ -30,12 +30,6 @@ returns-in-Ok-clause-ok g c =
     (record { lb = c.args.lb; given = c.args.at; entry = c.in-Ok.entry })) c.self.view_is
     (adds_at c.self.inside.books.items c.args.lb c.index_mut.result.now c.admin.new.self c.args.session c.args.at (call.Admin c.args.command.now) c.in-Ok.entry here c.in-Ok.ensures.ok c.in-Ok.ensures.next))
 
-pub returns-in-Ok-clause-sound : goal.returns-in-Ok-clause-sound
-returns-in-Ok-clause-sound g c =
-    let here : slice_get c.self.inside.books.items c.args.lb ≡ Some c.index_mut.result.now =
-    here_at c.self.inside.books.items c.args.self.now c.args.lb c.index_mut.result.now c.self.view_is c.requires.lb c.index_mut.ensures.value in
-    at_put (λ (b : Journal). IsSound b) c.self.inside.books.items c.args.lb c.index_mut.result.now c.admin.new.self here c.in-Ok.ensures.sound
-
 pub returns-in-Ok-clause-commanded : goal.returns-in-Ok-clause-commanded
 returns-in-Ok-clause-commanded g c =
     let here : slice_get c.self.inside.books.items c.args.lb ≡ Some c.index_mut.result.now =
@@ -51,14 +45,22 @@ returns-in-Err-clause-commanded g c =
     (subst (λ (e : AdminError MarkNote). IsCommandedAt {T = ℕ} c.args.lb c.index_mut.result.now c.args.command.now (Err e)) (sym c.admin_refused.ensures)
     (command_told c.args.lb c.index_mut.result.now c.args.command.now c.in-Err.error c.in-Err.ensures.commanded))
 
-pub returns-in-Err-clause-sound : goal.returns-in-Err-clause-sound
-returns-in-Err-clause-sound g c =
+pub returns-in-Ok-clause-leaves : goal.returns-in-Ok-clause-leaves
+returns-in-Ok-clause-leaves g c =
     let here : slice_get c.self.inside.books.items c.args.lb ≡ Some c.index_mut.result.now =
-    here_at c.self.inside.books.items c.args.self.now c.args.lb c.index_mut.result.now c.self.view_is c.requires.lb c.index_mut.ensures.value in
-    at_put (λ (b : Journal). IsSound b) c.self.inside.books.items c.args.lb c.index_mut.result.now c.admin.new.self here c.in-Err.ensures.sound
+    here_at c.self.inside.books.items c.args.self.now c.args.lb c.index_mut.result.now c.self.view_is c.requires.lb c.index_mut.ensures.value in record {
+      sound = at_put (λ (b : Journal). IsSound b) c.self.inside.books.items c.args.lb c.index_mut.result.now c.admin.new.self here c.in-Ok.ensures.sound;
+      err = tt;
+      amount = c.count_entry.ensures.amount;
+      parts = c.count_entry.ensures.parts;
+    }
 
-pub returns-in-Err-clause-err : goal.returns-in-Err-clause-err
-returns-in-Err-clause-err g c =
+pub returns-in-Err-clause-leaves : goal.returns-in-Err-clause-leaves
+returns-in-Err-clause-leaves g c =
     let here : slice_get c.self.inside.books.items c.args.lb ≡ Some c.index_mut.result.now =
-    here_at c.self.inside.books.items c.args.self.now c.args.lb c.index_mut.result.now c.self.view_is c.requires.lb c.index_mut.ensures.value in
-    put_back c.self.inside.books.items c.args.self.now c.args.lb c.index_mut.result.now c.admin.new.self here c.in-Err.ensures.err c.self.view_is
+    here_at c.self.inside.books.items c.args.self.now c.args.lb c.index_mut.result.now c.self.view_is c.requires.lb c.index_mut.ensures.value in record {
+      sound = at_put (λ (b : Journal). IsSound b) c.self.inside.books.items c.args.lb c.index_mut.result.now c.admin.new.self here c.in-Err.ensures.sound;
+      err = put_back c.self.inside.books.items c.args.self.now c.args.lb c.index_mut.result.now c.admin.new.self here c.in-Err.ensures.err c.self.view_is;
+      amount = refl;
+      parts = refl;
+    }

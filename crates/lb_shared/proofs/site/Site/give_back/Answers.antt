@@ -1,5 +1,5 @@
 -- The Book's Return, told of its balancer.
-use Rattle.std.proofs.Common.{◌≡◌, ℕ, ◌<◌, Bool, true, false, List, Some, length, sym, ap, subst}
+use Rattle.std.proofs.Common.{◌≡◌, ℕ, ◌<◌, Bool, true, false, List, Some, length, sym, ap, subst, refl}
 use Rattle.std.specs.Prelude.{◌↔◌, slice_get, slice_set}
 use Rattle.lb_model.specs.Tickets.{is_out}
 use Rattle.lb_model.specs.declared.journal.Call.TheVariants as call
@@ -41,14 +41,6 @@ returns-in-Ok-clause-found g c =
     subst (λ (l : LeaseNote). At c.args.self.now l.lb (λ (b : Journal). (◌≡◌ {A = Bool} true true) ↔ (is_out b.opening (past_of b) l.ticket ≡ true))) c.lease.view_is
     (at_here (λ (b : Journal). (◌≡◌ {A = Bool} true true) ↔ (is_out b.opening (past_of b) c.lease.inside.ticket ≡ true)) c.self.inside.books.items c.args.self.now c.lease.inside.lb c.index_mut.result.now c.self.view_is here c.in-Ok.ensures.found)
 
-pub returns-in-Ok-clause-sound : goal.returns-in-Ok-clause-sound
-returns-in-Ok-clause-sound g c =
-    let lb_is = ap (λ (l : LeaseNote). l.lb) c.lease.view_is in
-    let here : slice_get c.self.inside.books.items c.lease.inside.lb ≡ Some c.index_mut.result.now =
-    here_at c.self.inside.books.items c.args.self.now c.lease.inside.lb c.index_mut.result.now c.self.view_is (subst (λ (n : ℕ). n < length c.args.self.now) (sym lb_is) c.requires.lb) c.index_mut.ensures.value in
-    subst (λ (n : ℕ). At (slice_set c.self.inside.books.items c.lease.inside.lb c.return_ticket.new.self) n (λ (b : Journal). IsSound b)) lb_is
-    (at_put (λ (b : Journal). IsSound b) c.self.inside.books.items c.lease.inside.lb c.index_mut.result.now c.return_ticket.new.self here c.in-Ok.ensures.sound)
-
 pub returns-in-Err-clause-found : goal.returns-in-Err-clause-found
 returns-in-Err-clause-found g c =
     let lb_is = ap (λ (l : LeaseNote). l.lb) c.lease.view_is in
@@ -65,17 +57,26 @@ returns-in-Err-clause-returned g c =
     subst (λ (l : LeaseNote). At c.args.self.now l.lb (λ (b : Journal). IsReturnedAt (past_of b) l.ticket c.in-Err.stray.returned_at)) c.lease.view_is
     (at_here (λ (b : Journal). IsReturnedAt (past_of b) c.lease.inside.ticket c.in-Err.stray.returned_at) c.self.inside.books.items c.args.self.now c.lease.inside.lb c.index_mut.result.now c.self.view_is here c.in-Err.ensures.returned)
 
-pub returns-in-Err-clause-sound : goal.returns-in-Err-clause-sound
-returns-in-Err-clause-sound g c =
+pub returns-in-Ok-clause-leaves : goal.returns-in-Ok-clause-leaves
+returns-in-Ok-clause-leaves g c =
     let lb_is = ap (λ (l : LeaseNote). l.lb) c.lease.view_is in
     let here : slice_get c.self.inside.books.items c.lease.inside.lb ≡ Some c.index_mut.result.now =
-    here_at c.self.inside.books.items c.args.self.now c.lease.inside.lb c.index_mut.result.now c.self.view_is (subst (λ (n : ℕ). n < length c.args.self.now) (sym lb_is) c.requires.lb) c.index_mut.ensures.value in
-    subst (λ (n : ℕ). At (slice_set c.self.inside.books.items c.lease.inside.lb c.return_ticket.new.self) n (λ (b : Journal). IsSound b)) lb_is
-    (at_put (λ (b : Journal). IsSound b) c.self.inside.books.items c.lease.inside.lb c.index_mut.result.now c.return_ticket.new.self here c.in-Err.ensures.sound)
+    here_at c.self.inside.books.items c.args.self.now c.lease.inside.lb c.index_mut.result.now c.self.view_is (subst (λ (n : ℕ). n < length c.args.self.now) (sym lb_is) c.requires.lb) c.index_mut.ensures.value in record {
+      sound = subst (λ (n : ℕ). At (slice_set c.self.inside.books.items c.lease.inside.lb c.return_ticket.new.self) n (λ (b : Journal). IsSound b)) lb_is
+          (at_put (λ (b : Journal). IsSound b) c.self.inside.books.items c.lease.inside.lb c.index_mut.result.now c.return_ticket.new.self here c.in-Ok.ensures.sound);
+      err = tt;
+      amount = c.count_entry.ensures.amount;
+      parts = c.count_entry.ensures.parts;
+    }
 
-pub returns-in-Err-clause-err : goal.returns-in-Err-clause-err
-returns-in-Err-clause-err g c =
+pub returns-in-Err-clause-leaves : goal.returns-in-Err-clause-leaves
+returns-in-Err-clause-leaves g c =
     let lb_is = ap (λ (l : LeaseNote). l.lb) c.lease.view_is in
     let here : slice_get c.self.inside.books.items c.lease.inside.lb ≡ Some c.index_mut.result.now =
-    here_at c.self.inside.books.items c.args.self.now c.lease.inside.lb c.index_mut.result.now c.self.view_is (subst (λ (n : ℕ). n < length c.args.self.now) (sym lb_is) c.requires.lb) c.index_mut.ensures.value in
-    put_back c.self.inside.books.items c.args.self.now c.lease.inside.lb c.index_mut.result.now c.return_ticket.new.self here c.in-Err.ensures.err c.self.view_is
+    here_at c.self.inside.books.items c.args.self.now c.lease.inside.lb c.index_mut.result.now c.self.view_is (subst (λ (n : ℕ). n < length c.args.self.now) (sym lb_is) c.requires.lb) c.index_mut.ensures.value in record {
+      sound = subst (λ (n : ℕ). At (slice_set c.self.inside.books.items c.lease.inside.lb c.return_ticket.new.self) n (λ (b : Journal). IsSound b)) lb_is
+          (at_put (λ (b : Journal). IsSound b) c.self.inside.books.items c.lease.inside.lb c.index_mut.result.now c.return_ticket.new.self here c.in-Err.ensures.sound);
+      err = put_back c.self.inside.books.items c.args.self.now c.lease.inside.lb c.index_mut.result.now c.return_ticket.new.self here c.in-Err.ensures.err c.self.view_is;
+      amount = refl;
+      parts = refl;
+    }

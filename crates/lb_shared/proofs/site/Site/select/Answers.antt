@@ -40,12 +40,6 @@ returns-in-Ok-clause-pick g c =
     (at_here (λ (b : Journal). IsPick b.rules b.opening (past_of b) c.args.ask.now c.in-Ok.field-0.entry.answer) c.self.inside.books.items c.args.self.now c.args.lb c.index_mut.result.now
     c.self.view_is here c.in-Ok.ensures.pick)
 
-pub returns-in-Ok-clause-sound : goal.returns-in-Ok-clause-sound
-returns-in-Ok-clause-sound g c =
-    let here : slice_get c.self.inside.books.items c.args.lb ≡ Some c.index_mut.result.now =
-    here_at c.self.inside.books.items c.args.self.now c.args.lb c.index_mut.result.now c.self.view_is c.requires.lb c.index_mut.ensures.value in
-    at_put (λ (b : Journal). IsSound b) c.self.inside.books.items c.args.lb c.index_mut.result.now c.select.new.self here c.in-Ok.ensures.sound
-
 pub returns-in-Ok-clause-member : goal.returns-in-Ok-clause-member
 returns-in-Ok-clause-member g c =
     let here : slice_get c.self.inside.books.items c.args.lb ≡ Some c.index_mut.result.now =
@@ -69,14 +63,22 @@ returns-in-Err-clause-full g c =
     (subst (λ (e : RoomError MarkNote). IsRoomAt {T = ℕ} c.args.lb 2 c.index_mut.result.now (Err e)) (sym c.room_refused.ensures)
     (room_told c.args.lb 2 c.index_mut.result.now c.in-Err.error c.in-Err.ensures.full))
 
-pub returns-in-Err-clause-sound : goal.returns-in-Err-clause-sound
-returns-in-Err-clause-sound g c =
+pub returns-in-Ok-clause-leaves : goal.returns-in-Ok-clause-leaves
+returns-in-Ok-clause-leaves g c =
     let here : slice_get c.self.inside.books.items c.args.lb ≡ Some c.index_mut.result.now =
-    here_at c.self.inside.books.items c.args.self.now c.args.lb c.index_mut.result.now c.self.view_is c.requires.lb c.index_mut.ensures.value in
-    at_put (λ (b : Journal). IsSound b) c.self.inside.books.items c.args.lb c.index_mut.result.now c.select.new.self here c.in-Err.ensures.sound
+    here_at c.self.inside.books.items c.args.self.now c.args.lb c.index_mut.result.now c.self.view_is c.requires.lb c.index_mut.ensures.value in record {
+      sound = at_put (λ (b : Journal). IsSound b) c.self.inside.books.items c.args.lb c.index_mut.result.now c.select.new.self here c.in-Ok.ensures.sound;
+      err = tt;
+      amount = c.count_entry.ensures.amount;
+      parts = c.count_entry.ensures.parts;
+    }
 
-pub returns-in-Err-clause-err : goal.returns-in-Err-clause-err
-returns-in-Err-clause-err g c =
+pub returns-in-Err-clause-leaves : goal.returns-in-Err-clause-leaves
+returns-in-Err-clause-leaves g c =
     let here : slice_get c.self.inside.books.items c.args.lb ≡ Some c.index_mut.result.now =
-    here_at c.self.inside.books.items c.args.self.now c.args.lb c.index_mut.result.now c.self.view_is c.requires.lb c.index_mut.ensures.value in
-    put_back c.self.inside.books.items c.args.self.now c.args.lb c.index_mut.result.now c.select.new.self here c.in-Err.ensures.err c.self.view_is
+    here_at c.self.inside.books.items c.args.self.now c.args.lb c.index_mut.result.now c.self.view_is c.requires.lb c.index_mut.ensures.value in record {
+      sound = at_put (λ (b : Journal). IsSound b) c.self.inside.books.items c.args.lb c.index_mut.result.now c.select.new.self here c.in-Err.ensures.sound;
+      err = put_back c.self.inside.books.items c.args.self.now c.args.lb c.index_mut.result.now c.select.new.self here c.in-Err.ensures.err c.self.view_is;
+      amount = refl;
+      parts = refl;
+    }

@@ -35,7 +35,7 @@ leave-requires-clause-told g c =
     let known = known_held (length g.L.SiteName.sizes) c.self.inside.held.items (c.args.back.lease.lb, c.args.back.lease.ticket) c.self.invariant.0.known had in
     told_last g.L.SiteName.starts c.self.inside.seat.me c.enter.new.seat.me c.self.invariant.2 c.enter.ensures.took
     c.slot_mut.result.now c.slot_mut.ensures.value c.in-Some.locked c.in-Some.is c.give_back-done.new.self
-    c.self.inside.account.receipts.items c.give_back-done.new.account.receipts.items c.args.back.lease.lb (cut_in c.give_back-done.result.0) c.give_back-done.ensures.news
+    c.self.inside.account.receipts.items c.give_back-done.new.account.receipts.items c.args.back.lease.lb (cut_in c.give_back-done.result.0) c.give_back-done.ensures.ends.news
     (λ n steps was.
     back_history g.L.SiteName.starts n steps g.L.SiteName.sizes g.L.SiteName.firsts c.in-Some.locked.books (held c.give_back-done.new.self.books c.give_back-done.new.account.receipts.items c.give_back-done.new.account.share.amount) c.self.inside.account.receipts.items c.self.inside.account.share.amount c.args.back.session c.args.back.at c.args.back.lease c.args.back.outcome (cut_in c.give_back-done.result.0) c.give_back-done.result.1 known c.give_back-done.ensures.ok c.give_back-done.ensures.err was)
 
@@ -45,7 +45,7 @@ returns-clause-sees g c =
     let known = known_held (length g.L.SiteName.sizes) c.self.inside.held.items (c.args.back.lease.lb, c.args.back.lease.ticket) c.self.invariant.0.known had in
     let sees = seat_sees g.L.SiteName.starts c.self.inside.seat.me c.enter.new.seat.me c.self.invariant.2 c.enter.ensures.took
     c.slot_mut.result.now c.slot_mut.ensures.value c.in-Some.locked c.in-Some.is c.give_back-done.new.self
-    c.self.inside.account.receipts.items c.give_back-done.new.account.receipts.items c.args.back.lease.lb (cut_in c.give_back-done.result.0) c.give_back-done.ensures.news
+    c.self.inside.account.receipts.items c.give_back-done.new.account.receipts.items c.args.back.lease.lb (cut_in c.give_back-done.result.0) c.give_back-done.ensures.ends.news
     (λ n steps was.
     back_history g.L.SiteName.starts n steps g.L.SiteName.sizes g.L.SiteName.firsts c.in-Some.locked.books (held c.give_back-done.new.self.books c.give_back-done.new.account.receipts.items c.give_back-done.new.account.share.amount) c.self.inside.account.receipts.items c.self.inside.account.share.amount c.args.back.session c.args.back.at c.args.back.lease c.args.back.outcome (cut_in c.give_back-done.result.0) c.give_back-done.result.1 known c.give_back-done.ensures.ok c.give_back-done.ensures.err was) c.leave.new.seat.me c.leave.ensures.left in
     rw (sym c.self.view_is)
@@ -58,14 +58,14 @@ returns-clause-marks g c =
     rw (sym c.self.view_is)
     (seat_cuts g.L.SiteName.starts c.self.inside.seat.me c.enter.new.seat.me c.self.invariant.2 c.enter.ensures.took
     c.slot_mut.result.now c.slot_mut.ensures.value c.in-Some.locked c.in-Some.is c.give_back-done.new.self
-    c.self.inside.account.receipts.items c.give_back-done.new.account.receipts.items c.args.back.lease.lb (cut_in c.give_back-done.result.0) c.give_back-done.ensures.news
+    c.self.inside.account.receipts.items c.give_back-done.new.account.receipts.items c.args.back.lease.lb (cut_in c.give_back-done.result.0) c.give_back-done.ensures.ends.news
     (λ n steps was.
     back_history g.L.SiteName.starts n steps g.L.SiteName.sizes g.L.SiteName.firsts c.in-Some.locked.books (held c.give_back-done.new.self.books c.give_back-done.new.account.receipts.items c.give_back-done.new.account.share.amount) c.self.inside.account.receipts.items c.self.inside.account.share.amount c.args.back.session c.args.back.at c.args.back.lease c.args.back.outcome (cut_in c.give_back-done.result.0) c.give_back-done.result.1 known c.give_back-done.ensures.ok c.give_back-done.ensures.err was) c.leave.new.seat.me c.leave.ensures.left _ _)
 
 pub returns-clause-ok : goal.returns-clause-ok
 returns-clause-ok g c =
     rw (sym c.self.view_is)
-    (back_ok g.L.SiteName.sizes g.L.SiteName.firsts c.in-Some.locked.books c.give_back-done.new.self.books (cut_in c.give_back-done.result.0) c.self.inside.account.receipts.items c.give_back-done.new.account.receipts.items c.self.inside.account.share.amount c.give_back-done.new.account.share.amount c.args.back.session c.args.back.at c.args.back.lease c.args.back.outcome c.self.inside.account.share.parts c.give_back-done.new.account.share.parts c.self.inside.held.items c.take_last.new.held.items c.give_back-done.result.1 c.give_back-done.ensures.kept.0 c.give_back-done.ensures.ok)
+    (back_ok g.L.SiteName.sizes g.L.SiteName.firsts c.in-Some.locked.books c.give_back-done.new.self.books (cut_in c.give_back-done.result.0) c.self.inside.account.receipts.items c.give_back-done.new.account.receipts.items c.self.inside.account.share.amount c.give_back-done.new.account.share.amount c.args.back.session c.args.back.at c.args.back.lease c.args.back.outcome c.self.inside.account.share.parts c.give_back-done.new.account.share.parts c.self.inside.held.items c.take_last.new.held.items c.give_back-done.result.1 c.give_back-done.ensures.ends.parts c.give_back-done.ensures.ok)
 
 pub returns-clause-held : goal.returns-clause-held
 returns-clause-held g c =
@@ -104,7 +104,7 @@ invariant_of-self g c =
     let known = known_held (length g.L.SiteName.sizes) c.self.inside.held.items (c.args.back.lease.lb, c.args.back.lease.ticket) c.self.invariant.0.known had in
     let sees = seat_sees g.L.SiteName.starts c.self.inside.seat.me c.enter.new.seat.me c.self.invariant.2 c.enter.ensures.took
     c.slot_mut.result.now c.slot_mut.ensures.value c.in-Some.locked c.in-Some.is c.give_back-done.new.self
-    c.self.inside.account.receipts.items c.give_back-done.new.account.receipts.items c.args.back.lease.lb (cut_in c.give_back-done.result.0) c.give_back-done.ensures.news
+    c.self.inside.account.receipts.items c.give_back-done.new.account.receipts.items c.args.back.lease.lb (cut_in c.give_back-done.result.0) c.give_back-done.ensures.ends.news
     (λ n steps was.
     back_history g.L.SiteName.starts n steps g.L.SiteName.sizes g.L.SiteName.firsts c.in-Some.locked.books (held c.give_back-done.new.self.books c.give_back-done.new.account.receipts.items c.give_back-done.new.account.share.amount) c.self.inside.account.receipts.items c.self.inside.account.share.amount c.args.back.session c.args.back.at c.args.back.lease c.args.back.outcome (cut_in c.give_back-done.result.0) c.give_back-done.result.1 known c.give_back-done.ensures.ok c.give_back-done.ensures.err was) c.leave.new.seat.me c.leave.ensures.left in
     let length = back_length g.L.SiteName.sizes g.L.SiteName.firsts c.in-Some.locked.books c.give_back-done.new.self.books (cut_in c.give_back-done.result.0) c.self.inside.account.receipts.items c.give_back-done.new.account.receipts.items c.self.inside.account.share.amount c.give_back-done.new.account.share.amount c.args.back.session c.args.back.at c.args.back.lease c.args.back.outcome c.give_back-done.result.1 c.give_back-done.ensures.ok in
@@ -114,14 +114,13 @@ invariant_of-self g c =
     (subst (λ (n : ℕ). c.take_last.new.held.items ≡ without_last c.self.inside.held.items (n, c.ticket-ticket.result)) c.lb-lb.ensures c.take_last.ensures.held) in
     let cuts = seat_cuts g.L.SiteName.starts c.self.inside.seat.me c.enter.new.seat.me c.self.invariant.2 c.enter.ensures.took
     c.slot_mut.result.now c.slot_mut.ensures.value c.in-Some.locked c.in-Some.is c.give_back-done.new.self
-    c.self.inside.account.receipts.items c.give_back-done.new.account.receipts.items c.args.back.lease.lb (cut_in c.give_back-done.result.0) c.give_back-done.ensures.news
+    c.self.inside.account.receipts.items c.give_back-done.new.account.receipts.items c.args.back.lease.lb (cut_in c.give_back-done.result.0) c.give_back-done.ensures.ends.news
     (λ n steps was.
     back_history g.L.SiteName.starts n steps g.L.SiteName.sizes g.L.SiteName.firsts c.in-Some.locked.books (held c.give_back-done.new.self.books c.give_back-done.new.account.receipts.items c.give_back-done.new.account.share.amount) c.self.inside.account.receipts.items c.self.inside.account.share.amount c.args.back.session c.args.back.at c.args.back.lease c.args.back.outcome (cut_in c.give_back-done.result.0) c.give_back-done.result.1 known c.give_back-done.ensures.ok c.give_back-done.ensures.err was) c.leave.new.seat.me c.leave.ensures.left c.self.inside.seat.table_id c.leave.new.seat.table_id in (
       shared_returned _ c.self.inside.account.receipts.items c.give_back-done.new.account.receipts.items c.self.inside.held.items c.take_last.new.held.items (c.args.back.lease.lb, c.args.back.lease.ticket) c.self.inside.account.share.parts c.give_back-done.new.account.share.parts c.self.inside.account.share.amount c.give_back-done.new.account.share.amount c.self.inside.forgotten
-          (vec_capacity c.self.inside.account.receipts) (vec_capacity c.give_back-done.new.account.receipts) c.give_back-done.result.1 c.self.invariant.0 had length amount err c.give_back-done.ensures.few c.give_back-done.ensures.kept.0 without c.give_back-done.ensures.kept.1,
+          (vec_capacity c.self.inside.account.receipts) (vec_capacity c.give_back-done.new.account.receipts) c.give_back-done.result.1 c.self.invariant.0 had length amount err c.give_back-done.ensures.ends.few c.give_back-done.ensures.ends.parts without c.give_back-done.ensures.ends.room,
       c.leave.ensures.of ∙ c.enter.ensures.of ∙ c.self.invariant.1,
       sees.rests,
       count_returned g.L.SiteName.starts c.self.inside.seat.table_id c.leave.new.seat.table_id c.self.inside.seat.me c.leave.new.seat.me c.self.inside.account.receipts.items c.give_back-done.new.account.receipts.items c.self.inside.account.share.amount c.give_back-done.new.account.share.amount c.give_back-done.result.1 sees length amount err c.self.invariant.3,
-      count_cuts (seat_note g.L.SiteName.starts c.self.inside.seat.table_id c.self.inside.seat.me) (seat_note g.L.SiteName.starts c.leave.new.seat.table_id c.leave.new.seat.me) (cut_in c.give_back-done.result.0) _ _ cuts c.give_back-done.ensures.counted c.self.invariant.4,
-      c.give_back-done.ensures.parts ∙ c.self.invariant.5 ∙ sym c.give_back-done.ensures.kept.0,
+      count_cuts (seat_note g.L.SiteName.starts c.self.inside.seat.table_id c.self.inside.seat.me) (seat_note g.L.SiteName.starts c.leave.new.seat.table_id c.leave.new.seat.me) (cut_in c.give_back-done.result.0) _ _ cuts c.give_back-done.ensures.ends.counted c.self.invariant.4,
     )

@@ -24,21 +24,29 @@ leave-requires-clause-told g c =
     (refl, c.look-done.ensures.news.0, c.look-done.ensures.news.1, c.look-done.ensures.news.2)
     (λ n steps was. look_history g.L.SiteName.starts n steps c.look-done.new.self.lb c.in-Some.locked.books c.look-done.new.self.books c.look-done.ensures.same was)
 
-pub returns-clause-sees : goal.returns-clause-sees
-returns-clause-sees g c =
+pub returns-clause-looks : goal.returns-clause-looks
+returns-clause-looks g c =
     let sees = seat_sees g.L.SiteName.starts c.self.inside.seat.me c.enter.new.seat.me c.self.invariant.2 c.enter.ensures.took
     c.slot_mut.result.now c.slot_mut.ensures.value c.in-Some.locked c.in-Some.is c.look-done.new.self [] [] c.look-done.new.self.lb None
     (refl, c.look-done.ensures.news.0, c.look-done.ensures.news.1, c.look-done.ensures.news.2)
     (λ n steps was. look_history g.L.SiteName.starts n steps c.look-done.new.self.lb c.in-Some.locked.books c.look-done.new.self.books c.look-done.ensures.same was) c.leave.new.seat.me c.leave.ensures.left in
-    rw (sym c.self.view_is) (desk_sees g.L.SiteName.starts _ _ _ _ c.self.inside.seat.me c.leave.new.seat.me _ (c.leave.ensures.of ∙ c.enter.ensures.of) sees)
-
-pub returns-clause-marks : goal.returns-clause-marks
-returns-clause-marks g c =
-    rw (sym c.self.view_is)
-    (seat_cuts g.L.SiteName.starts c.self.inside.seat.me c.enter.new.seat.me c.self.invariant.2 c.enter.ensures.took
+    let last = seen_last g.L.SiteName.starts c.self.inside.seat.me c.enter.new.seat.me c.self.invariant.2 c.enter.ensures.took
     c.slot_mut.result.now c.slot_mut.ensures.value c.in-Some.locked c.in-Some.is c.look-done.new.self [] [] c.look-done.new.self.lb None
     (refl, c.look-done.ensures.news.0, c.look-done.ensures.news.1, c.look-done.ensures.news.2)
-    (λ n steps was. look_history g.L.SiteName.starts n steps c.look-done.new.self.lb c.in-Some.locked.books c.look-done.new.self.books c.look-done.ensures.same was) c.leave.new.seat.me c.leave.ensures.left c.self.inside.seat.table_id c.leave.new.seat.table_id)
+    (λ n steps was. look_history g.L.SiteName.starts n steps c.look-done.new.self.lb c.in-Some.locked.books c.look-done.new.self.books c.look-done.ensures.same was) c.leave.new.seat.me c.leave.ensures.left in
+    let sited = subst (λ (xs : List Journal). AreSited g.L.SiteName.sizes g.L.SiteName.firsts xs) (sym c.look-done.ensures.same) c.look-done.ensures.sited in
+    let shown = subst (λ (xs : List Journal). IfOk c.look-done.result (λ v. At xs c.args.lb (λ (b : Journal). IsPresent b.rules b.opening (past_of b) v.view))) (sym c.look-done.ensures.same) c.look-done.ensures.shown in
+    rw (sym c.self.view_is)
+    (record {
+      sees = desk_sees g.L.SiteName.starts _ _ _ _ c.self.inside.seat.me c.leave.new.seat.me _ (c.leave.ensures.of ∙ c.enter.ensures.of) sees;
+      marks = seat_cuts g.L.SiteName.starts c.self.inside.seat.me c.enter.new.seat.me c.self.invariant.2 c.enter.ensures.took
+          c.slot_mut.result.now c.slot_mut.ensures.value c.in-Some.locked c.in-Some.is c.look-done.new.self [] [] c.look-done.new.self.lb None
+          (refl, c.look-done.ensures.news.0, c.look-done.ensures.news.1, c.look-done.ensures.news.2)
+          (λ n steps was. look_history g.L.SiteName.starts n steps c.look-done.new.self.lb c.in-Some.locked.books c.look-done.new.self.books c.look-done.ensures.same was)
+          c.leave.new.seat.me c.leave.ensures.left c.self.inside.seat.table_id c.leave.new.seat.table_id;
+      begun = refl;
+      whole = present_history g.L.SiteName.starts _ g.L.SiteName.sizes g.L.SiteName.firsts c.look-done.new.self.books c.args.lb c.look-done.result sited c.requires.known last.history shown;
+    })
 
 pub invariant_of-self : goal.invariant_of-self
 invariant_of-self g c =
@@ -61,15 +69,4 @@ invariant_of-self g c =
       sees.rests,
       count_looked g.L.SiteName.starts c.self.inside.seat.table_id c.leave.new.seat.table_id c.self.inside.seat.me c.leave.new.seat.me _ _ sees c.look-done.ensures.amount c.self.invariant.3,
       count_cuts (seat_note g.L.SiteName.starts c.self.inside.seat.table_id c.self.inside.seat.me) (seat_note g.L.SiteName.starts c.leave.new.seat.table_id c.leave.new.seat.me) None _ _ cuts refl c.self.invariant.4,
-      c.self.invariant.5 ∙ sym c.look-done.ensures.parts,
     )
-
-pub returns-clause-whole : goal.returns-clause-whole
-returns-clause-whole g c =
-    let last = seen_last g.L.SiteName.starts c.self.inside.seat.me c.enter.new.seat.me c.self.invariant.2 c.enter.ensures.took
-    c.slot_mut.result.now c.slot_mut.ensures.value c.in-Some.locked c.in-Some.is c.look-done.new.self [] [] c.look-done.new.self.lb None
-    (refl, c.look-done.ensures.news.0, c.look-done.ensures.news.1, c.look-done.ensures.news.2)
-    (λ n steps was. look_history g.L.SiteName.starts n steps c.look-done.new.self.lb c.in-Some.locked.books c.look-done.new.self.books c.look-done.ensures.same was) c.leave.new.seat.me c.leave.ensures.left in
-    let sited = subst (λ (xs : List Journal). AreSited g.L.SiteName.sizes g.L.SiteName.firsts xs) (sym c.look-done.ensures.same) c.look-done.ensures.sited in
-    let shown = subst (λ (xs : List Journal). IfOk c.look-done.result (λ v. At xs c.args.lb (λ (b : Journal). IsPresent b.rules b.opening (past_of b) v.view))) (sym c.look-done.ensures.same) c.look-done.ensures.shown in
-    present_history g.L.SiteName.starts _ g.L.SiteName.sizes g.L.SiteName.firsts c.look-done.new.self.books c.args.lb c.look-done.result sited c.requires.known last.history shown
