@@ -1,11 +1,12 @@
 -- How the receipts of all desks stand to the entries that the Books keep, when the desks are closed.
-use Rattle.std.specs.Prelude.{◌≡◌, ℕ, suc, ◌+◌, ◌*◌, ◌^◌, ◌==◌, nat_lt, Bool, List, [], ◌∷◌, ◌++◌, length, map, take, Option, Some, None, slice_get, if◌then◌else◌}
-use Rattle.std.specs.List.{All}
+use Rattle.std.specs.Prelude.{◌≡◌, ℕ, suc, ◌+◌, ◌*◌, ◌^◌, ◌==◌, nat_lt, Bool, List, [], ◌∷◌, ◌++◌, length, map, sum_by, take, Option, Some, None, slice_get, if◌then◌else◌}
+use Rattle.std.specs.List.{All, flat_map}
 use Rattle.std.specs.List.Sorted.{IsNonDecreasingBy, IsPermutation}
 use Rattle.lb_model.specs.declared.journal.Entry.{Entry}
 use Rattle.lb_book.specs.Journal.{Journal}
 use Rattle.lb_shared.specs.Sites.{AreSited, added_in}
 use Rattle.lb_book.specs.declared.receipt.Receipt.{Receipt}
+use Rattle.lb_shared.specs.declared.shared_desk.Leaving.{Leaving}
 
 -- The entries of receipts, each with its balancer.
 abbrev pub noted : List Receipt → List (ℕ × Entry)
@@ -72,3 +73,8 @@ pub record Differs (sizes firsts : List ℕ) (entries : ℕ) (receipts : List (�
   pub counted : added_in books ≡ entries
   pub uncut : AreUncut books
   pub discord : IsDiscord receipts (kept_from 0 books) d
+
+-- As `Differs`, of what these desks left: as many entries as their shares count, and their receipts.
+abbrev pub LeftDiffers : {L S : Type 0} → (sizes firsts : List ℕ) → List (Leaving L S) → DiscordNote → Type 0
+LeftDiffers sizes firsts leaving =
+    Differs sizes firsts (sum_by (λ l. l.share.amount) leaving) (noted (flat_map (λ l. l.receipts) leaving))

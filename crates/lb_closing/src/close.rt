@@ -7,8 +7,8 @@ ghost use Rattle.lb_shared.specs.Histories.{IsClosed, IsClosedAfter, IsSiteHisto
 ghost use Rattle.lb_shared.specs.Locks.{lock_of};
 ghost use Rattle.lb_shared.specs.Sites.{AreSited, added_in};
 ghost use Rattle.lb_closing.specs.CloseErrors.{IsCloseError};
-ghost use Rattle.lb_closing.specs.Closings.{AreUncut, Differs, IsDiscord, kept_from, noted};
-ghost use Rattle.lb_closing.specs.OneHistory.{DiffersWhole, IsOneHistory};
+ghost use Rattle.lb_closing.specs.Closings.{AreUncut, IsDiscord, LeftDiffers, kept_from, noted};
+ghost use Rattle.lb_closing.specs.OneHistory.{DiffersAfter, IsOneHistory, LeftDiffersWhole};
 ghost use Rattle.lb_model.specs.declared.config.TheConstants.{MAX_BALANCERS};
 
 use crate::compare::{Noted, first_difference, put_in_order};
@@ -30,6 +30,7 @@ pub struct Closed<S> {
     /// How many entries the Books added since the Site was opened.
     pub entries: u64,
     pub shelves: ShelfList<S>,
+    pub ghost every: { entries ≡ added_in books },
 }
 
 /// Why the desks can't be closed.
@@ -87,8 +88,7 @@ pub fn close_desks<'r, L: SiteName, S: Drop, R: Wait>(
 
     // A discord comes only there, and tells the first number at which they differ.
     ensures all { IfErr result (IsCloseError (λ d. All (λ l. l.forgotten ≡ 0) leaving)) }
-    ensures differs { IfErr result (IsCloseError
-        (Differs L.sizes L.firsts (sum_by (λ l. l.share.amount) leaving) (noted (flat_map (λ l. l.receipts) leaving)))) }
+    ensures differs { IfErr result (IsCloseError (LeftDiffers L.sizes L.firsts leaving)) }
 {
     let alloc = leaving.allocator();
     let mut all = gather(leaving)?;
@@ -113,8 +113,7 @@ pub fn close_own_desks<'r, L: SiteName, S: Drop, R: Wait>(
     ensures shelves { IfOk result (λ c. c.shelves ≡ map (λ l. l.shelf) leaving) }
 
     // So it is of the Books with which the receipts are in discord.
-    ensures differs { IfErr result (IsCloseError (DiffersWhole L.starts (map (λ l. l.seat) leaving) L.sizes L.firsts
-        (sum_by (λ l. l.share.amount) leaving) (noted (flat_map (λ l. l.receipts) leaving)))) }
+    ensures differs { IfErr result (IsCloseError (LeftDiffersWhole L.starts L.sizes L.firsts leaving)) }
 {
     close_gathered(site, gather(leaving)?)
 }
@@ -128,12 +127,11 @@ fn close_gathered<'r, L: SiteName, S: Drop, R: Wait>(
     requires here { All (λ s. s.lock ≡ lock_of site) all.seats.items }
     ensures sited { IfOk result (λ c. AreSited L.sizes L.firsts c.books) }
     ensures history { IfOk result (λ c. IsClosedAfter L.starts all.seats.items all.cuts.amount c.books) }
-    ensures entries { IfOk result (λ c. c.entries ≡ added_in c.books) }
     ensures counted { IfOk result (λ c. c.entries ≡ all.share.amount) }
     ensures shelves { IfOk result (λ c. c.shelves ≡ all.shelves.items) }
     ensures once { IfOk result (λ c. all.forgot ≡ false → AreUncut c.books → IsPermutation all.noted.items (kept_from 0 c.books)) }
-    ensures differs { IfErr result (IsCloseError (λ d. (all.forgot ≡ false)
-        × (x : Differs L.sizes L.firsts all.share.amount all.noted.items d) × IsClosedAfter L.starts all.seats.items all.cuts.amount x.books)) }
+    ensures differs { IfErr result (IsCloseError (DiffersAfter L.starts all.seats.items all.cuts.amount
+        L.sizes L.firsts all.share.amount all.noted.items all.forgot)) }
 {
     let Gathered {
         share,

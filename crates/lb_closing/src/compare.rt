@@ -4,7 +4,7 @@ ghost use Rattle.std.specs.List.Sorted.{IsNonDecreasingBy, IsPermutation};
 ghost use Rattle.lb_closing.specs.Closings.{IsFirstDifference, entry_for, first_number, is_earlier, rank_of};
 
 use crate::discord::Discord;
-use crate::same::is_same;
+use crate::same::Same;
 use jk_io::NoMemory;
 use lb_model::Entry;
 
@@ -45,7 +45,7 @@ fn differ(x: Option<Noted>, y: Option<Noted>) -> bool
 {
     match (x, y) {
         (None, None) => false,
-        (Some(x), Some(y)) => !is_same(x, y),
+        (Some(x), Some(y)) => !x.is_same(y),
         (None, Some(_)) | (Some(_), None) => true,
     }
 }

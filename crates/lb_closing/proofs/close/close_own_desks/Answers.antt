@@ -34,6 +34,6 @@ returns-clause-whole g c =
     (λ closed is.
     let here = subst (λ (ss : List SeatNote). IsClosedAfter g.L.SiteName.starts ss c.in_ok-gather.field-0.cuts.amount closed.books) c.in_ok-gather.ensures.seats is.0 in
     whole_by g.L.SiteName.starts _ _ closed.books here
-    (amounts (λ s. own_count s) (λ l. l.seat) (λ l. l.share.amount) c.args.leaving (λ l. l.own) ∙ sym c.in_ok-gather.ensures.amount ∙ sym is.1.1 ∙ is.1.0)
+    (amounts (λ s. own_count s) (λ l. l.seat) (λ l. l.share.amount) c.args.leaving (λ l. l.own) ∙ sym c.in_ok-gather.ensures.amount ∙ sym is.1 ∙ closed.every)
     (amounts (λ s. cut_count s) (λ l. l.seat) (λ l. l.cuts.amount) c.args.leaving (λ l. l.own_cuts) ∙ sym c.in_ok-gather.ensures.cuts))
-    (ok_both _ _ c.close_gathered.result c.close_gathered.ensures.history (ok_both _ _ c.close_gathered.result c.close_gathered.ensures.entries c.close_gathered.ensures.counted))
+    (ok_both _ _ c.close_gathered.result c.close_gathered.ensures.history c.close_gathered.ensures.counted)
