@@ -1,7 +1,7 @@
 -- Gears that a world handed out and took back.
 use Rattle.std.proofs.Common.{ℕ, ◌≡◌, ◌+◌, ◌≤◌, List, [], ◌∷◌, ◌++◌, length, Option, Result, Ok, Err, zero, suc, refl, sym, ◌∙◌, ap, subst, arith, rules, length-append}
 use Rattle.std.specs.List.{All}
-use Rattle.std.specs.Prelude.{IfOk, OnErr}
+use Rattle.std.specs.Prelude.{OnErr}
 use Rattle.std.proofs.lemmas.List.Elements.{All-nil, All-push}
 use Rattle.jk_io.specs.Told.{appended, HasCause}
 use Rattle.jk_io.proofs.ToldLaws.{appended-appended, appended-nil, Rose-within}
@@ -123,11 +123,6 @@ taken_still tells wanted cfg s m n gears more so_far none same = rw same (record
   idle = so_far.idle;
   suited = so_far.suited;
 })
-
--- of what succeeded this follows
-pub ok_then : {T E : Type 0} (r : Result T E) (P Q : T → Type 0) → IfOk r P → ((x : T) → P x → Q x) → IfOk r Q
-ok_then (Ok x) P Q is then = then x is
-ok_then (Err e) P Q is then = is
 
 -- what succeeded has no cause
 pub no_cause : {T : Type 0} (before now : ℕ) (x : T) → now ≡ before → HasCause before now (Ok x)

@@ -1,8 +1,9 @@
 -- Gears taken from a world for the workers of a run, and last segments added to shelves.
-use Rattle.std.specs.Prelude.{◌≡◌, ℕ, List, [], ◌∷◌, Option}
+use Rattle.std.specs.Prelude.{◌≡◌, ℕ, List, [], ◌∷◌, IsOk, Option, Result}
 use Rattle.std.specs.List.{All}
 use Rattle.std.specs.Option.{option_copied}
-use Rattle.jk_io.specs.Told.{appended}
+use Rattle.jk_io.specs.Told.{HasCause, appended}
+use Rattle.jk_io.specs.declared.failures.IoError.{IoError}
 use Rattle.lb_model.specs.Legal.{IsLegal}
 use Rattle.lb_model.specs.declared.segment.Segment.{Segment}
 use Rattle.lb_book.specs.Journal.{IsSegmentOf, Journal}
@@ -39,3 +40,8 @@ pub record AddsCut {S : Type 0} (shelved : S → Option (List (ℕ × Segment)))
   pub whole : IsSegmentOf book segment
   pub legal : IsLegal segment.rules segment.opening segment.entries
   pub added : shelved new ≡ appended (shelved old) ((lb, segment) ∷ [])
+
+-- The count of failures rose where the call failed, and in no call that was done.
+pub record CountsFailure {T : Type 0} (before now : ℕ) (done : Result T IoError) : Type 0 where
+  pub cause : HasCause before now done
+  pub steady : IsOk done → now ≡ before

@@ -1,9 +1,9 @@
 //! Gears taken of a world, one for each worker, and given back.
-ghost use Rattle.std.specs.Prelude.{◌≡◌, ◌+◌, ◌<◌, ◌≤◌, [], length, vec_capacity, vec_len, IfOk, IsOk, IsSome, OnErr, OnOk};
+ghost use Rattle.std.specs.Prelude.{◌≡◌, ◌+◌, ◌<◌, ◌≤◌, [], length, vec_capacity, vec_len, IfOk, IsOk, OnErr, OnOk};
 ghost use Rattle.std.specs.List.{All};
 ghost use Rattle.std.specs.Option.{option_copied};
 ghost use Rattle.jk_io.specs.Told.{HasCause, appended};
-ghost use Rattle.gear_parts.specs.Steps.{TakesGear, TakesGears};
+ghost use Rattle.gear_parts.specs.Steps.{CountsFailure, TakesGear, TakesGears};
 ghost use Rattle.gear_parts.specs.Wants.{AreSuited, wants_of};
 ghost use Rattle.gear_parts.specs.Worlds.{gear_told, HandsAndTakes, HandsNone, IsMade, RefusesGear, world_side};
 
@@ -31,15 +31,13 @@ fn take_gear<W: World>(
     asked: &GearOrder<'_>,
     gears: &mut Vec<GearOf<W>>,
 ) -> Result<(), IoError>
-    requires named { IsSome asked.now.journal → IsSome asked.now.cfg }
     requires room { vec_len gears.old < vec_capacity gears.old }
     ensures ok { OnOk result (TakesGear W.World W.D.Door W.T.Tape W.K.Clock number asked.now
         world.old world.new gears.old.items gears.new.items) }
     ensures room { OnOk result ((vec_len gears.new ≡ vec_len gears.old + 1) × (vec_capacity gears.new ≡ vec_capacity gears.old)) }
     ensures err { OnErr result (let at = world_side W.World in HandsNone (at world.old) (at world.new)) }
     ensures same { OnErr result (gears.new.items ≡ gears.old.items) }
-    ensures cause { HasCause (W.faults world.old) (W.faults world.new) result }
-    ensures steady { IsOk result → W.faults world.new ≡ W.faults world.old }
+    ensures counts { CountsFailure (W.faults world.old) (W.faults world.new) result }
 {
     let gear = world.gear(alloc, number, asked)?;
     gears.push_reserved(gear);
@@ -54,14 +52,12 @@ fn fill_gears<W: World>(
     asked: &GearOrder<'_>,
     gears: &mut Vec<GearOf<W>>,
 ) -> Result<(), IoError>
-    requires named { IsSome asked.now.journal → IsSome asked.now.cfg }
     requires none { vec_len gears.old ≡ 0 }
     requires room { threads ≤ vec_capacity gears.old }
     ensures taken { TakesGears W.World W.D.Door W.T.Tape W.K.Clock asked.now world.old world.new gears.new.items }
     ensures count { OnOk result (vec_len gears.new ≡ threads) }
     ensures fewer { OnErr result (vec_len gears.new < threads) }
-    ensures cause { HasCause (W.faults world.old) (W.faults world.new) result }
-    ensures steady { IsOk result → W.faults world.new ≡ W.faults world.old }
+    ensures counts { CountsFailure (W.faults world.old) (W.faults world.new) result }
 {
     'gears: for number in 0..threads {
         take_gear(alloc, world, number, asked, gears)?;
@@ -76,7 +72,6 @@ pub fn take_gears<W: World>(
     threads: u32,
     asked: &GearOrder<'_>,
 ) -> Result<Vec<GearOf<W>>, IoError>
-    requires named { IsSome asked.now.journal → IsSome asked.now.cfg }
     ensures taken { IfOk result (λ gears. let at = world_side W.World in
         HandsAndTakes (at world.old) (at world.new) gears.items []) }
     ensures count { IfOk result (λ gears. vec_len gears ≡ threads) }
@@ -88,29 +83,7 @@ pub fn take_gears<W: World>(
     ensures cause { HasCause (W.faults world.old) (W.faults world.new) result }
     ensures steady { IsOk result → W.faults world.new ≡ W.faults world.old }
 {
-    let gears = Vec::with_capacity(alloc, threads as usize)?;
-    gears_in(alloc, world, threads, asked, gears)
-}
-
-/// As `take_gears`, in the memory of `gears`.
-fn gears_in<W: World>(
-    alloc: Global,
-    world: &mut W,
-    threads: u32,
-    asked: &GearOrder<'_>,
-    gears: Vec<GearOf<W>>,
-) -> Result<Vec<GearOf<W>>, IoError>
-    requires named { IsSome asked.now.journal → IsSome asked.now.cfg }
-    requires none { vec_len gears ≡ 0 }
-    requires room { threads ≤ vec_capacity gears }
-    ensures taken { IfOk result (λ gears. TakesGears W.World W.D.Door W.T.Tape W.K.Clock asked.now
-        world.old world.new gears.items) }
-    ensures count { IfOk result (λ gears. vec_len gears ≡ threads) }
-    ensures refused { OnErr result (let at = world_side W.World in RefusesGear threads (at world.old) (at world.new)) }
-    ensures cause { HasCause (W.faults world.old) (W.faults world.new) result }
-    ensures steady { IsOk result → W.faults world.new ≡ W.faults world.old }
-{
-    let mut gears = gears;
+    let mut gears = Vec::with_capacity(alloc, threads as usize)?;
     match fill_gears(alloc, world, threads, asked, &mut gears) {
         Ok(()) => Ok(gears),
         Err(error) => {

@@ -5,6 +5,7 @@ ghost use Rattle.std.specs.Option.{option_copied};
 ghost use Rattle.jk_io.specs.Told.{HasCause};
 ghost use Rattle.gear_parts.specs.Gears.{AreGiven, TakesLog, unlogged};
 ghost use Rattle.gear_parts.specs.Putting.{PutsOne};
+ghost use Rattle.gear_parts.specs.Steps.{CountsFailure};
 ghost use Rattle.gear_parts.specs.Wants.{AreSuited};
 ghost use Rattle.gear_parts.specs.Worlds.{HandsAndTakes, world_side};
 
@@ -26,8 +27,7 @@ fn take_log<W: World>(
     ensures ok { OnOk result (PutsOne (W.is_log dir.now number) logs.old.items logs.new.items) }
     ensures room { OnOk result ((vec_len logs.new ≡ vec_len logs.old + 1) × (vec_capacity logs.new ≡ vec_capacity logs.old)) }
     ensures same { (W.handed world.new ≡ W.handed world.old) × (W.came_back world.new ≡ W.came_back world.old) × (W.out world.new ≡ W.out world.old) }
-    ensures cause { HasCause (W.faults world.old) (W.faults world.new) result }
-    ensures steady { IsOk result → W.faults world.new ≡ W.faults world.old }
+    ensures counts { CountsFailure (W.faults world.old) (W.faults world.new) result }
 {
     let log = world.log(alloc, dir, number)?;
     logs.push_reserved(log);
@@ -47,8 +47,7 @@ fn fill_logs<W: World>(
     ensures suited { OnOk result (AreSuited (W.is_log dir.now) 0 logs.new.items) }
     ensures count { OnOk result (vec_len logs.new ≡ threads) }
     ensures same { (W.handed world.new ≡ W.handed world.old) × (W.came_back world.new ≡ W.came_back world.old) × (W.out world.new ≡ W.out world.old) }
-    ensures cause { HasCause (W.faults world.old) (W.faults world.new) result }
-    ensures steady { IsOk result → W.faults world.new ≡ W.faults world.old }
+    ensures counts { CountsFailure (W.faults world.old) (W.faults world.new) result }
 {
     'logs: for number in 0..threads {
         take_log(alloc, world, dir, number, logs)?;
@@ -66,8 +65,7 @@ fn logs_for<W: World>(
     ensures suited { IfOk result (λ logs. AreSuited (W.is_log dir.now) 0 logs.items) }
     ensures count { IfOk result (λ logs. vec_len logs ≡ threads) }
     ensures same { (W.handed world.new ≡ W.handed world.old) × (W.came_back world.new ≡ W.came_back world.old) × (W.out world.new ≡ W.out world.old) }
-    ensures cause { HasCause (W.faults world.old) (W.faults world.new) result }
-    ensures steady { IsOk result → W.faults world.new ≡ W.faults world.old }
+    ensures counts { CountsFailure (W.faults world.old) (W.faults world.new) result }
 {
     let mut logs = Vec::with_capacity(alloc, threads as usize)?;
     match fill_logs(alloc, world, threads, dir, &mut logs) {

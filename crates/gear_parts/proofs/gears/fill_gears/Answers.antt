@@ -15,7 +15,7 @@ pub gears-preserved : goal.gears-preserved
 gears-preserved g c = record {
   taken = taken_on _ _ _ _ _ _ _ _ _ c.gears.invariant.taken (omega (arith, c.gears.invariant.count, c.gears.gears.ok.0)) c.in_ok-take_gear.ensures.ok;
   count = omega (arith, c.gears.invariant.count, c.in_ok-take_gear.ensures.room.0);
-  steady = c.in_ok-take_gear.ensures.steady refl ∙ c.gears.invariant.steady;
+  steady = c.in_ok-take_gear.ensures.counts.steady refl ∙ c.gears.invariant.steady;
   room = omega (arith, c.gears.invariant.room, c.in_ok-take_gear.ensures.room.1);
 }
 
@@ -26,14 +26,17 @@ returns-in_err-take_gear-clause-taken g c =
 pub returns-in_err-take_gear-clause-count : goal.returns-in_err-take_gear-clause-count
 returns-in_err-take_gear-clause-count g c = IfOk-from_err c.from_residual.result _ c.from_residual.ensures.0
 
-pub returns-in_err-take_gear-clause-cause : goal.returns-in_err-take_gear-clause-cause
-returns-in_err-take_gear-clause-cause g c =
+pub returns-in_err-take_gear-clause-counts : goal.returns-in_err-take_gear-clause-counts
+returns-in_err-take_gear-clause-counts g c =
     let p = err_from_is_err_and c.from_residual.result c.from_residual.ensures.1 in
     rw (p.1, p.2)
-    (cause_on _ _ _ c.in_err-take_gear.field-0.0 c.gears.invariant.steady c.in_err-take_gear.ensures.cause)
+    (record {
+      cause = cause_on _ _ _ c.in_err-take_gear.field-0.0 c.gears.invariant.steady c.in_err-take_gear.ensures.counts.cause;
+      steady = λ no. absurd cc;
+    })
 
 pub returns-clause-taken : goal.returns-clause-taken
 returns-clause-taken g c = c.gears.invariant.taken
 
-pub returns-clause-cause : goal.returns-clause-cause
-returns-clause-cause g c = no_cause _ _ _ c.gears.invariant.steady
+pub returns-clause-counts : goal.returns-clause-counts
+returns-clause-counts g c = record { cause = no_cause _ _ _ c.gears.invariant.steady; steady = λ _. c.gears.invariant.steady }

@@ -19,7 +19,7 @@ logs-preserved g c =
       suited = log_on _ _ _ _ c.logs.invariant.suited (omega (arith, c.logs.invariant.count, c.logs.logs.ok.0)) c.in_ok-take_log.ensures.ok;
       count = omega (arith, c.logs.invariant.count, c.in_ok-take_log.ensures.room.0);
       same = (same.0 ∙ c.logs.invariant.same.0, same.1 ∙ c.logs.invariant.same.1, same.2 ∙ c.logs.invariant.same.2);
-      steady = c.in_ok-take_log.ensures.steady refl ∙ c.logs.invariant.steady;
+      steady = c.in_ok-take_log.ensures.counts.steady refl ∙ c.logs.invariant.steady;
       room = omega (arith, c.logs.invariant.room, c.in_ok-take_log.ensures.room.1);
     }
 
@@ -34,11 +34,14 @@ returns-in_err-take_log-clause-same g c =
     let same = c.in_err-take_log.ensures.same in
     (same.0 ∙ c.logs.invariant.same.0, same.1 ∙ c.logs.invariant.same.1, same.2 ∙ c.logs.invariant.same.2)
 
-pub returns-in_err-take_log-clause-cause : goal.returns-in_err-take_log-clause-cause
-returns-in_err-take_log-clause-cause g c =
+pub returns-in_err-take_log-clause-counts : goal.returns-in_err-take_log-clause-counts
+returns-in_err-take_log-clause-counts g c =
     let p = err_from_is_err_and c.from_residual.result c.from_residual.ensures.1 in
     rw (p.1, p.2)
-    (cause_on _ _ _ c.in_err-take_log.field-0.0 c.logs.invariant.steady c.in_err-take_log.ensures.cause)
+    (record {
+      cause = cause_on _ _ _ c.in_err-take_log.field-0.0 c.logs.invariant.steady c.in_err-take_log.ensures.counts.cause;
+      steady = λ no. absurd cc;
+    })
 
 pub returns-clause-suited : goal.returns-clause-suited
 returns-clause-suited g c = c.logs.invariant.suited
@@ -46,5 +49,5 @@ returns-clause-suited g c = c.logs.invariant.suited
 pub returns-clause-same : goal.returns-clause-same
 returns-clause-same g c = c.logs.invariant.same
 
-pub returns-clause-cause : goal.returns-clause-cause
-returns-clause-cause g c = no_cause _ _ _ c.logs.invariant.steady
+pub returns-clause-counts : goal.returns-clause-counts
+returns-clause-counts g c = record { cause = no_cause _ _ _ c.logs.invariant.steady; steady = λ _. c.logs.invariant.steady }

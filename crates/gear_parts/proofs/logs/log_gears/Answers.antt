@@ -17,13 +17,13 @@ returns-in-Ok-clause-len g c =
     omega (arith, same, c.requires.count, c.args.gears.ok.0, c.with_logs.result.ok.0)
 
 pub returns-in-Ok-clause-cause : goal.returns-in-Ok-clause-cause
-returns-in-Ok-clause-cause g c = no_cause _ _ _ (c.in-Ok.ensures.steady refl)
+returns-in-Ok-clause-cause g c = no_cause _ _ _ (c.in-Ok.ensures.counts.steady refl)
 
 pub returns-in-Err-clause-refused : goal.returns-in-Err-clause-refused
 returns-in-Err-clause-refused g c =
     let same = c.in-Err.ensures.same in
-    given_after _ _ _ _ same.0 same.1 same.2 c.in-Err.ensures.cause.no_fewer c.give_back.ensures.came_back
+    given_after _ _ _ _ same.0 same.1 same.2 c.in-Err.ensures.counts.cause.no_fewer c.give_back.ensures.came_back
     (omega (arith, c.give_back.ensures.fewer, c.args.gears.ok.0)) c.give_back.ensures.same.0 c.give_back.ensures.same.1
 
 pub returns-in-Err-clause-cause : goal.returns-in-Err-clause-cause
-returns-in-Err-clause-cause g c = cause_again _ _ _ _ c.in-Err.ensures.cause c.give_back.ensures.same.1
+returns-in-Err-clause-cause g c = cause_again _ _ _ _ c.in-Err.ensures.counts.cause c.give_back.ensures.same.1

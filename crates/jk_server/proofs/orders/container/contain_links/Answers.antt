@@ -1,11 +1,8 @@
-use Rattle.std.proofs.Common.{length, ap, refl, sym, ◌∙◌, rules}
+use Rattle.std.proofs.Common.{length, ap, refl, sym, ◌∙◌}
 use Rattle.jk_server.specs.Commands.{Ran}
 use Rattle.jk_server.proofs.CommandLaws.{all_came_back, may_come_back, wants_back, works_err}
 use Rattle.jk_server.proofs.ReturnLaws.{all_returned}
 use Rattle.jk_server.proofs.orders.container.contain_links.Goals as goal
-
-pub take_gears-requires-clause-named : goal.take_gears-requires-clause-named
-take_gears-requires-clause-named g c κs within = search rules
 
 pub returns-in-Err : goal.returns-in-Err
 returns-in-Err g c = works_err _ _ _ _ c.in-Err.error _ c.in-Err.ensures.refused c.in-Err.ensures.cause c.end_by.ensures

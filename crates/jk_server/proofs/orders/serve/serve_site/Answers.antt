@@ -11,9 +11,6 @@ pub returns-in-Err : goal.returns-in-Err
 returns-in-Err g c =
     rw (← c.get-threads.ensures.value) (works_err _ _ _ _ c.in-Err.error _ c.in-Err.ensures.refused c.in-Err.ensures.cause c.end_by.ensures)
 
-pub take_gears-requires-clause-named : goal.take_gears-requires-clause-named
-take_gears-requires-clause-named g c κs within = λ some. c.gear_order-asked.ensures.site.1
-
 pub log_gears-requires-clause-out : goal.log_gears-requires-clause-out
 log_gears-requires-clause-out g c κs within = omega (arith, c.in-Ok.ensures.taken.counted, c.in-Ok.gears.ok.0)
 
