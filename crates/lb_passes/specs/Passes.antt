@@ -4,6 +4,7 @@ use mathlib.Core.Option.{some}
 use lib.ListN.{get_elem?}
 use Rattle.atomic_table.specs.Seated.{TableId}
 use Rattle.lb_passes.specs.declared.pass.Pass.{Pass}
+use Rattle.lb_model.specs.Limits.{modern_rules}
 use Rattle.lb_book.specs.Journal.{Journal}
 use Rattle.lb_passes.specs.declared.pass_view.Origin.{Origin}
 use Rattle.lb_passes.specs.declared.pass_view.PassView.{PassView}
@@ -11,6 +12,12 @@ use Rattle.lb_passes.specs.declared.pass_view.PassView.{PassView}
 -- The history of a pass book that begins with this Book, which is cut where it has `cut_at` kept entries.
 abbrev pub origin_of : Journal → (cut_at : ℕ) → Origin
 origin_of b cut_at = record { opening = b.opening; added = b.added; cut_at = cut_at }
+
+-- A Book whose callers may take turns: it is of rules 2, and has no entry and no ticket out.
+pub record MayTakeTurns (b : Journal) : Type 0 where
+  pub modern : b.rules ≡ modern_rules
+  pub empty : b.entries ≡ []
+  pub none_out : b.opening.out ≡ []
 
 -- The view of a caller of this number, in a history of this origin that has no entry yet.
 pub record IsNewView (o : Origin) (number : ℕ) (v : PassView) : Type 0 where

@@ -2,7 +2,7 @@
 ghost use Rattle.std.specs.Prelude.{◌≡◌, ◌<◌, ◌≤◌, [], IfOk, vec_capacity};
 ghost use Rattle.lb_passes.specs.Plays.{giver_after, next_caller};
 ghost use Rattle.lb_model.specs.declared.segment.TheConstants.{MODERN_RULES};
-ghost use Rattle.lb_passes.specs.Passes.{AreNewPasses, IsNewPass, origin_of};
+ghost use Rattle.lb_passes.specs.Passes.{AreNewPasses, IsNewPass, MayTakeTurns, origin_of};
 
 use crate::PassView;
 use crate::bells::Bells;
@@ -34,17 +34,14 @@ pub struct PassBook {
 }
 
 impl PassBook {
-    ghost use Rattle.std.specs.Prelude.{◌≡◌, ◌≤◌, [], IfOk};
-    ghost use Rattle.lb_model.specs.declared.segment.TheConstants.{MODERN_RULES};
-    ghost use Rattle.lb_passes.specs.Passes.{AreNewPasses, origin_of};
+    ghost use Rattle.std.specs.Prelude.{◌≤◌, IfOk};
+    ghost use Rattle.lb_passes.specs.Passes.{AreNewPasses, MayTakeTurns, origin_of};
 
     /// A Book whose callers take turns, and its passes, with the numbers from 0 up. It is never cut.
     pub fn new(alloc: Global, book: Book, passes: u32) -> Result<(PassBook, PassList), NoMemory>
         requires some { 1 ≤ passes }
         requires few { passes ≤ MAX_PASSES }
-        requires modern { book.rules ≡ MODERN_RULES }
-        requires empty { book.entries ≡ [] }
-        requires none_out { book.opening.out ≡ [] }
+        requires start { MayTakeTurns book }
         ensures { IfOk result (λ made. AreNewPasses (origin_of book 0) made.0.table.shared.table_id passes made.1) }
     {
         let mut list = Vec::with_capacity(alloc, passes as usize)?;
@@ -57,8 +54,7 @@ impl PassBook {
 
 // The table of a Book, and its first caller.
 fn begin_table(alloc: Global, book: Book, cut_at: u32) -> Result<(PassBook, Pass), NoMemory>
-    requires modern { book.rules ≡ MODERN_RULES }
-    requires empty { book.entries ≡ [] }
+    requires { MayTakeTurns book }
     ensures pass { IfOk result (λ made. IsNewPass (origin_of book cut_at) made.0.table.shared.table_id 1 0 made.1) }
     ensures founded { IfOk result (λ made. (made.0.table.shared.key.book.value ≡ book) × (made.0.cut_at ≡ cut_at)) }
 {

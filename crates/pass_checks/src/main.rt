@@ -7,6 +7,7 @@
 mod callers;
 mod meeting;
 mod notes;
+mod pair;
 mod sessions;
 mod stages;
 mod start;

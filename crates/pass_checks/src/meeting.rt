@@ -1,22 +1,19 @@
 //! Two callers side by side: the first gives its ticket back only once the second has had a whole exchange. Were all done by
 //! one thread, the first would wait in vain.
-ghost use Rattle.std.specs.Prelude.{◌≡◌, ◌∷◌, [], Some};
-ghost use Rattle.lb_passes.specs.PassDesks.{table_in};
-ghost use Rattle.lb_passes.specs.Passes.{AreNewPasses};
-ghost use Rattle.lb_passes.specs.Placed.{IsBack};
-ghost use Rattle.lb_passes.specs.declared.pass_book.PassBook.{PassBook};
+ghost use Rattle.std.specs.Prelude.{◌≡◌, [], Some};
+ghost use Rattle.pass_checks.specs.Pairs.{ArePair};
 
 use crate::callers::{FRESH, give};
+use crate::pair::{PassPair, PlacedPass};
 use crate::start::start_book;
 use anyhow::Result as Judged;
 use check_rows::files::print_claim;
 use jk_io::{Gate, NoMemory};
 use lb_book::Desk;
 use lb_book::desk::Choice;
-use lb_passes::{Pass, PassBook, PassList, PassPlace, PlacedDesk};
+use lb_passes::{PassBook, PassList, PassPlace, PlacedDesk};
 use std::alloc::Global;
 use std::marker::Brand;
-use std::slice::from_ref;
 use std::sync::Wait;
 use std::thread::{self, Threads};
 use std::time::{Clock, Duration};
@@ -103,57 +100,34 @@ fn go_side_by_side<P: PassPlace + Send + Sync, R: Threads + Wait + Clock + Sync>
 fn caller_of<'b, 'r, P: PassPlace, R>(
     alloc: Global,
     rt: &'r R,
-    books: &'b [PassBook],
-    pass: Pass,
+    placed: PlacedPass<'b, P>,
     number: u32,
 ) -> Result<Caller<'b, 'r, P, R>, NoMemory>
-    requires book { (b : PassBook) × (books.now ≡ b ∷ []) × (table_in b ≡ P.table) }
-    requires pass { IsBack P.table P.origin P.given pass }
-    requires number { pass.number ≡ number }
+    requires { placed.pass.number ≡ number }
 {
-    Ok(Caller::new(PlacedDesk::new(alloc, rt, books, pass)?, number))
+    Ok(Caller::new(placed.desk(alloc, rt)?, number))
 }
 
-/// Whether the callers of these two passes go side by side.
-fn go_over<P: PassPlace + Send + Sync, R: Threads + Wait + Clock + Sync>(
-    rt: &R,
-    alloc: Global,
-    books: &[PassBook],
-    first: Pass,
-    second: Pass,
-) -> Result<bool, NoMemory>
-    requires book { (b : PassBook) × (books.now ≡ b ∷ []) × (table_in b ≡ P.table) }
-    requires first { IsBack P.table P.origin P.given first × (first.number ≡ 0) }
-    requires second { IsBack P.table P.origin P.given second × (second.number ≡ 1) }
-{
-    let mut first = caller_of::<P, R>(alloc, rt, books, first, 0)?;
-    let mut second = caller_of::<P, R>(alloc, rt, books, second, 1)?;
-    Ok(go_side_by_side(rt, &mut first, &mut second))
-}
-
-/// The same with the two passes of a list.
+/// Whether the callers of the two passes of a list go side by side.
 fn go_in<P: PassPlace + Send + Sync, R: Threads + Wait + Clock + Sync>(
     rt: &R,
     alloc: Global,
-    books: &[PassBook],
+    book: &PassBook,
     passes: PassList,
 ) -> Result<bool, NoMemory>
-    requires book { (b : PassBook) × (books.now ≡ b ∷ []) × (table_in b ≡ P.table) }
-    requires passes { AreNewPasses P.origin P.table 2 passes }
-    requires given { P.given ≡ 2 }
+    requires pair { ArePair P.table P.origin P.given book.now passes }
 {
-    let mut list = passes.into_vec();
-    match (list.pop(), list.pop()) {
-        (Some(second), Some(first)) => go_over::<P, R>(rt, alloc, books, first, second),
-        _ => unreachable!(),
-    }
+    let PassPair { first, second } = PassPair::<P>::of_list(book, passes);
+    let mut first = caller_of(alloc, rt, first, 0)?;
+    let mut second = caller_of(alloc, rt, second, 1)?;
+    Ok(go_side_by_side(rt, &mut first, &mut second))
 }
 
 /// Whether two callers of a new Book go side by side.
 fn goes<R: Threads + Wait + Clock + Sync>(rt: &R, alloc: Global) -> Result<bool, NoMemory> {
     let start = start_book(alloc)?;
     let (book, passes) = PassBook::new(alloc, start, 2)?;
-    go_in::<Brand, R>(rt, alloc, from_ref(&book), passes)
+    go_in::<Brand, R>(rt, alloc, &book, passes)
 }
 
 /// Prints whether two callers go side by side.

@@ -1,21 +1,19 @@
 //! The row of two callers, and what is told of it.
-ghost use Rattle.std.specs.Prelude.{◌≡◌, ◌∷◌, [], ℕ, IfOk};
-ghost use Rattle.lb_passes.specs.PassDesks.{table_in};
-ghost use Rattle.lb_passes.specs.Passes.{AreNewPasses};
-ghost use Rattle.lb_passes.specs.Placed.{AreBack, IsBack};
-ghost use Rattle.lb_passes.specs.declared.pass_book.PassBook.{PassBook};
+ghost use Rattle.std.specs.Prelude.{IfOk};
+ghost use Rattle.lb_passes.specs.Placed.{AreBack};
+ghost use Rattle.pass_checks.specs.Pairs.{ArePair};
 
 use crate::callers::{Met, meet_by_note};
+use crate::pair::PassPair;
 use crate::start::start_book;
 use anyhow::Result as Judged;
 use check_rows::files::{print_count, read_rows};
 use jk_io::{Bytes, NoMemory, put_decimal};
 use lb_model::MemberRow;
-use lb_passes::{Pass, PassBook, PassList, PassPlace, PlacedDesk, close_passes};
+use lb_passes::{PassBook, PassList, PassPlace, close_passes};
 use std::alloc::Global;
 use std::marker::Brand;
 use std::rt::Files;
-use std::slice::from_ref;
 use std::sync::Wait;
 
 /// The file of the row.
@@ -51,55 +49,32 @@ fn tell_met(met: Option<Met>, out: &mut Bytes) -> Result<(), NoMemory> {
     }
 }
 
-/// Has the two callers of these passes meet over their desks, and gives the passes back.
-fn meet_over<P: PassPlace, R: Wait>(
+/// Has the callers of the two passes of a list meet over their desks, and gives the passes back.
+fn meet_in<P: PassPlace, R: Wait>(
     rt: &R,
     alloc: Global,
-    books: &[PassBook],
-    first: Pass,
-    second: Pass,
+    book: &PassBook,
+    passes: PassList,
     out: &mut Bytes,
 ) -> Result<PassList, NoMemory>
-    requires book { (b : PassBook) × (books.now ≡ b ∷ []) × (table_in b ≡ P.table) }
-    requires first { IsBack P.table P.origin P.given first × (first.number ≡ 0) }
-    requires second { IsBack P.table P.origin P.given second × (second.number ≡ 1) }
-    requires given { P.given ≡ 2 }
+    requires pair { ArePair P.table P.origin P.given book.now passes }
     ensures { IfOk result (AreBack P.table P.origin P.given) }
 {
     let mut back = Vec::with_capacity(alloc, 2)?;
-    let mut first = PlacedDesk::<P, R>::new(alloc, rt, books, first)?;
-    let mut second = PlacedDesk::<P, R>::new(alloc, rt, books, second)?;
+    let PassPair { first, second } = PassPair::<P>::of_list(book, passes);
+    let mut first = first.desk(alloc, rt)?;
+    let mut second = second.desk(alloc, rt)?;
     tell_met(meet_by_note(&mut first, &mut second), out)?;
     back.push_reserved(first.into_pass());
     back.push_reserved(second.into_pass());
     Ok(PassList::from_vec(back))
 }
 
-/// The same with the two passes of a list.
-fn meet_in<P: PassPlace, R: Wait>(
-    rt: &R,
-    alloc: Global,
-    books: &[PassBook],
-    passes: PassList,
-    out: &mut Bytes,
-) -> Result<PassList, NoMemory>
-    requires book { (b : PassBook) × (books.now ≡ b ∷ []) × (table_in b ≡ P.table) }
-    requires passes { AreNewPasses P.origin P.table 2 passes }
-    requires given { P.given ≡ 2 }
-    ensures { IfOk result (AreBack P.table P.origin P.given) }
-{
-    let mut list = passes.into_vec();
-    match (list.pop(), list.pop()) {
-        (Some(second), Some(first)) => meet_over::<P, R>(rt, alloc, books, first, second, out),
-        _ => unreachable!(),
-    }
-}
-
 /// Puts how many entries the Book has that two callers leave.
 fn tell_kept<R: Wait>(rt: &R, alloc: Global, out: &mut Bytes) -> Result<(), NoMemory> {
     let start = start_book(alloc)?;
     let (book, passes) = PassBook::new(alloc, start, 2)?;
-    let back = meet_in::<Brand, R>(rt, alloc, from_ref(&book), passes, out)?;
+    let back = meet_in::<Brand, R>(rt, alloc, &book, passes, out)?;
     match close_passes(book, back) {
         Ok(book) => {
             put_number(out, b"kept ", book.kept())?;

@@ -6,15 +6,14 @@ ghost use Rattle.std.specs.Prelude.{◌≡◌, ◌<◌, ◌∷◌, [], false, tr
 ghost use Rattle.conn_pool.specs.Idle.{counts};
 ghost use Rattle.exchange.specs.Requests.{sizes_of};
 ghost use Rattle.lb_model.specs.Journal.{members};
-ghost use Rattle.pass_checks.specs.Starts.{IsFresh};
-ghost use Rattle.lb_passes.specs.PassDesks.{table_in};
-ghost use Rattle.lb_passes.specs.Passes.{AreNewPasses};
+ghost use Rattle.lb_passes.specs.Passes.{MayTakeTurns};
 ghost use Rattle.lb_passes.specs.Placed.{AreBack, IsBack};
-ghost use Rattle.lb_passes.specs.declared.pass_book.PassBook.{PassBook};
+ghost use Rattle.pass_checks.specs.Pairs.{ArePair};
 ghost use Rattle.status_worker.specs.Desks.{KeepsTickets};
 ghost use Rattle.site_mounts.specs.Sites.{stands_in};
 
 use crate::notes::{put_busy, put_number};
+use crate::pair::{PassPair, PlacedPass};
 use client_session::{SessionSite, Surroundings, serve_session};
 use conn_pool::{Idle, NoTape, PooledReach, Pools};
 use http_front::Inbox;
@@ -31,7 +30,6 @@ use site_config::Config;
 use site_mounts::UriMap;
 use std::alloc::Global;
 use std::marker::Brand;
-use std::slice::from_ref;
 use std::sync::Wait;
 use std::thread::{self, Threads};
 use std::time::Clock;
@@ -285,15 +283,12 @@ fn tell_both<P: PassPlace + Send + Sync, R: Threads + Wait + Clock + Sync>(
 fn seat_of<'b, 'r, P: PassPlace, R, const NUMBER: u32>(
     alloc: Global,
     rt: &'r R,
-    books: &'b [PassBook],
-    pass: Pass,
+    placed: PlacedPass<'b, P>,
 ) -> Result<Seat<'b, 'r, P, R, NUMBER>, NoMemory>
-    requires book { (b : PassBook) × (books.now ≡ b ∷ []) × (table_in b ≡ P.table) }
-    requires pass { IsBack P.table P.origin P.given pass }
-    requires number { pass.number ≡ NUMBER }
+    requires number { placed.pass.number ≡ NUMBER }
     requires one { members P.origin.opening ≡ 1 }
 {
-    let desk = PlacedDesk::new(alloc, rt, books, pass)?;
+    let desk = placed.desk(alloc, rt)?;
     Ok(Seat { desk })
 }
 
@@ -306,25 +301,22 @@ fn pass_of<P: PassPlace, R, const NUMBER: u32>(seat: Seat<'_, '_, P, R, NUMBER>)
     desk.into_pass()
 }
 
-/// Has the callers of these passes served, and gives the passes back.
-fn over_passes<P: PassPlace + Send + Sync, R: Threads + Wait + Clock + Sync>(
+/// Has the callers of the two passes of a list served, and gives the passes back.
+fn over_list<P: PassPlace + Send + Sync, R: Threads + Wait + Clock + Sync>(
     rt: &R,
     alloc: Global,
     stage: &Stage,
-    books: &[PassBook],
-    first: Pass,
-    second: Pass,
+    book: &PassBook,
+    passes: PassList,
 ) -> Result<BothLeft, NoMemory>
-    requires book { (b : PassBook) × (books.now ≡ b ∷ []) × (table_in b ≡ P.table) }
-    requires first { IsBack P.table P.origin P.given first × (first.number ≡ 0) }
-    requires second { IsBack P.table P.origin P.given second × (second.number ≡ 1) }
-    requires given { P.given ≡ 2 }
+    requires pair { ArePair P.table P.origin P.given book.now passes }
     requires one { members P.origin.opening ≡ 1 }
     ensures { IfOk result (λ left. AreBack P.table P.origin P.given left.passes) }
 {
     let mut back = Vec::with_capacity(alloc, 2)?;
-    let mut first = seat_of::<P, R, 0>(alloc, rt, books, first)?;
-    let mut second = seat_of::<P, R, 1>(alloc, rt, books, second)?;
+    let PassPair { first, second } = PassPair::<P>::of_list(book, passes);
+    let mut first = seat_of::<P, R, 0>(alloc, rt, first)?;
+    let mut second = seat_of::<P, R, 1>(alloc, rt, second)?;
     let told = tell_both(rt, alloc, stage, &mut first, &mut second)?;
     back.push_reserved(pass_of(first));
     back.push_reserved(pass_of(second));
@@ -332,29 +324,6 @@ fn over_passes<P: PassPlace + Send + Sync, R: Threads + Wait + Clock + Sync>(
         passes: PassList::from_vec(back),
         told,
     })
-}
-
-/// The same with the two passes of a list.
-fn over_list<P: PassPlace + Send + Sync, R: Threads + Wait + Clock + Sync>(
-    rt: &R,
-    alloc: Global,
-    stage: &Stage,
-    books: &[PassBook],
-    passes: PassList,
-) -> Result<BothLeft, NoMemory>
-    requires book { (b : PassBook) × (books.now ≡ b ∷ []) × (table_in b ≡ P.table) }
-    requires passes { AreNewPasses P.origin P.table 2 passes }
-    requires given { P.given ≡ 2 }
-    requires one { members P.origin.opening ≡ 1 }
-    ensures { IfOk result (λ left. AreBack P.table P.origin P.given left.passes) }
-{
-    let mut list = passes.into_vec();
-    match (list.pop(), list.pop()) {
-        (Some(second), Some(first)) => {
-            over_passes::<P, R>(rt, alloc, stage, books, first, second)
-        }
-        _ => unreachable!(),
-    }
 }
 
 /// Adds what a check of the journal says.
@@ -378,11 +347,11 @@ pub fn tell_stage<R: Threads + Wait + Clock + Sync>(
     stage: &Stage,
     book: Book,
 ) -> Result<Bytes, NoMemory>
-    requires fresh { IsFresh book }
+    requires fresh { MayTakeTurns book }
     requires one { members book.opening ≡ 1 }
 {
     let (book, passes) = PassBook::new(alloc, book, 2)?;
-    let left = over_list::<Brand, R>(rt, alloc, stage, from_ref(&book), passes)?;
+    let left = over_list::<Brand, R>(rt, alloc, stage, &book, passes)?;
     let BothLeft { passes, mut told } = left;
     match close_passes(book, passes) {
         Ok(book) => put_checked(alloc, &book, &mut told)?,

@@ -2,7 +2,7 @@
 ghost use Rattle.std.specs.Prelude.{◌≡◌, ◌∷◌, [], true, IfOk};
 ghost use Rattle.exchange.specs.Requests.{sizes_of};
 ghost use Rattle.lb_model.specs.Journal.{members};
-ghost use Rattle.pass_checks.specs.Starts.{IsFresh};
+ghost use Rattle.lb_passes.specs.Passes.{MayTakeTurns};
 ghost use Rattle.site_mounts.specs.Sites.{stands_in};
 
 use crate::sessions::{Stage, Texts, tell_stage};
@@ -55,7 +55,7 @@ fn map_of(alloc: Global, row: BlockRow<'_>, config: &Config) -> Result<UriMap, R
 
 /// The Book of the one worker, as it starts; there must be one.
 fn book_of(alloc: Global, config: &Config) -> Result<Book, RowError>
-    ensures fresh { IfOk result IsFresh }
+    ensures fresh { IfOk result MayTakeTurns }
     ensures one { IfOk result (λ book. members book.opening ≡ 1) }
     ensures sized { IfOk result (λ _. sizes_of config.now.lbs ≡ 1 ∷ []) }
 {

@@ -1,6 +1,6 @@
 //! The Book that the callers take turns at.
 ghost use Rattle.std.specs.Prelude.{IfOk};
-ghost use Rattle.pass_checks.specs.Starts.{IsFresh};
+ghost use Rattle.lb_passes.specs.Passes.{MayTakeTurns};
 
 use jk_io::{Bytes, NoMemory};
 use lb_book::Book;
@@ -28,7 +28,7 @@ fn members(alloc: Global) -> Result<MemberList, NoMemory> {
 
 /// A Book of members a and b, of factor 1.
 pub fn start_book(alloc: Global) -> Result<Book, NoMemory>
-    ensures { IfOk result IsFresh }
+    ensures { IfOk result MayTakeTurns }
 {
     let members = members(alloc)?;
     match LbConfig::new(Method::Request, true, false, false, 60, 60, members) {
