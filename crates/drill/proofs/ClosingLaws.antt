@@ -1,5 +1,5 @@
 -- The one Book of a drill at its closing: a discord is found in it, and it has all entries and receipts.
-use Rattle.std.proofs.Common.{◌≡◌, ℕ, ◌+◌, List, [], ◌∷◌, ◌++◌, length, slice_index, Option, Some, None, Result, Ok, Err, refl, sym, ap, arith, subst, sum_by, ◌∙◌, zero-add}
+use Rattle.std.proofs.Common.{◌≡◌, ℕ, ◌+◌, Bool, false, List, [], ◌∷◌, ◌++◌, length, slice_index, Option, Some, None, Result, Ok, Err, refl, sym, ap, arith, subst, sum_by, ◌∙◌, zero-add}
 use Rattle.std.specs.List.{All}
 use Rattle.std.specs.Prelude.{IfOk, IfSome}
 use Rattle.std.proofs.lemmas.List.{length-append}
@@ -14,8 +14,10 @@ use Rattle.lb_closing.specs.Closings.{Differs}
 use Rattle.lb_closing.specs.declared.close.CloseError.{CloseError}
 use Rattle.lb_closing.specs.declared.close.CloseError.TheVariants as close
 use Rattle.lb_model.specs.declared.journal.Entry.{Entry}
-use Rattle.drill.specs.Ends.{IsDiscordFound, IsOfDrill, IsStarted}
+use Rattle.drill.specs.Ends.{IsDiscordFound, IsMeasured, IsOfDrill, IsStarted, receipts_of}
 use Rattle.drill.specs.Sites.{IsDrillBook}
+use Rattle.drill.specs.Counts.{CountsDrill}
+use Rattle.drill.specs.declared.running.Measured.{Measured}
 use Rattle.lb_model.specs.declared.config.LbConfig.{LbConfig}
 
 -- a Site with these sizes and first numbers has one Book, a drill's
@@ -89,6 +91,24 @@ all_receipts amount receipts forgotten (x ∷ xs) counted none =
     let forgot = All-head (λ y. forgotten y ≡ 0) x xs none in
     let rest = all_receipts amount receipts forgotten xs counted (All-rest (λ y. forgotten y ≡ 0) x xs (x ∷ xs) refl none) in
     omega (arith, here, forgot, rest, sum_by-cons amount x xs, sum_by-cons receipts x xs)
+
+-- A drill's closing, by the Book that it hands out and the bytes of all bodies.
+pub measured_whole : {E : Type 0} (seed threads requests bytes : ℕ) (r : Result Measured E) → IfOk r (λ m. IsOfDrill m.book) → IfOk r (λ m. m.bodies ≡ bytes)
+    → IfOk r (λ m. m.receipts ≡ length m.book.entries) → CountsDrill seed threads requests bytes
+    → IfOk r (λ m. IsMeasured seed threads requests (length m.book.entries) m)
+measured_whole seed threads requests bytes (Ok m) book bodies receipts counted = record {
+  book = book;
+  counted = subst (λ (n : ℕ). CountsDrill seed threads requests n) (sym bodies) counted;
+  compared = receipts;
+}
+measured_whole seed threads requests bytes (Err e) book bodies receipts counted = tt
+
+-- Over a lock a receipt of each entry is compared.
+pub measured_locked : {E : Type 0} (seed threads requests : ℕ) (passes : Bool) (r : Result Measured E) → passes ≡ false
+    → IfOk r (λ m. IsMeasured seed threads requests (length m.book.entries) m)
+    → IfOk r (λ m. IsMeasured seed threads requests (receipts_of passes m.book.entries) m)
+measured_locked seed threads requests passes r locked is =
+    subst (λ (p : Bool). IfOk r (λ m. IsMeasured seed threads requests (receipts_of p m.book.entries) m)) (sym locked) is
 
 -- One Book has all entries that were added.
 pub only_added : (books rest : List Journal) (b : Journal) → books ≡ rest ++ b ∷ [] → length books ≡ 1 → b.added ≡ added_in books

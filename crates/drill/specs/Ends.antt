@@ -12,6 +12,7 @@ use Rattle.drill.specs.Sites.{IsDrillBook}
 use Rattle.drill.specs.Summaries.{IsJournalText, summary_text}
 use Rattle.drill.specs.declared.drill_error.DrillError.{DrillError}
 use Rattle.drill.specs.declared.drill_error.DrillError.TheVariants as error
+use Rattle.drill.specs.declared.running.Measured.{Measured}
 
 -- A Book of rules 2 with two members that began with number 0, and whose journal, replayed, gives each recorded answer.
 pub record IsOfDrill (b : Journal) : Type 0 where
@@ -48,6 +49,12 @@ IsDiscordFound d = (entries : ℕ) × (receipts : List (ℕ × Entry)) × Differ
 -- How many receipts are compared with a journal: one of each entry. Over passes there are none.
 abbrev pub receipts_of : (passes : Bool) → List Entry → ℕ
 receipts_of passes h = if passes then 0 else length h
+
+-- What was measured of a drill: its Book, the bytes of the bodies in the rows of all sessions, and so many receipts.
+pub record IsMeasured (seed threads requests receipts : ℕ) (m : Measured) : Type 0 where
+  pub book : IsOfDrill m.book
+  pub counted : CountsDrill seed threads requests m.bodies
+  pub compared : m.receipts ≡ receipts
 
 -- Why a drill has no text: a discord, which the closing alone makes; a Book whose journal lacks what it should have of
 -- some thread, or an entry that it added; bodies in the rows of all sessions that had these bytes together, and not those that

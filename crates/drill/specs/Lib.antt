@@ -10,5 +10,6 @@ pub mod Requests
 pub mod Sites
 pub mod Summaries
 pub mod Threads
+pub mod Turns
 pub mod Wires
 pub mod Written

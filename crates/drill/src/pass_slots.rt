@@ -2,10 +2,10 @@
 ghost use Rattle.std.specs.Prelude.{◌≡◌, ◌<◌, ◌≤◌, ℕ, [], ◌∷◌, length, map, vec_capacity, vec_len, IfOk, Some, slice_index_or};
 ghost use Rattle.lb_model.specs.Journal.{members};
 ghost use Rattle.lb_passes.specs.PassDesks.{table_in};
-ghost use Rattle.lb_passes.specs.Passes.{AreNewPasses};
 ghost use Rattle.lb_passes.specs.declared.pass_book.PassBook.{PassBook};
 ghost use Rattle.drill.specs.Bodies.{all_together};
 ghost use Rattle.drill.specs.Counts.{AreMade, CountsDrill, IsMadeBy};
+ghost use Rattle.drill.specs.Turns.{AreDrillPasses};
 ghost use Rattle.lb_passes.specs.Placed.{AreBack, AreEachBack, AreFrom, IsBack};
 
 use crate::body_sum::together;
@@ -64,10 +64,7 @@ fn slots_for<'b, 'r, P: PassPlace, R>(
     books: &'b [PassBook],
     passes: PassList,
 ) -> Result<Vec<PassSlot<'b, 'r, P, R>>, NoMemory>
-    requires book { (b : PassBook) × (books.now ≡ b ∷ []) × (table_in b ≡ P.table) }
-    requires passes { AreNewPasses P.origin P.table P.given passes }
-    requires few { P.given ≤ MAX_THREADS }
-    requires two { members P.origin.opening ≡ 2 }
+    requires { AreDrillPasses P.table P.origin P.given books.now passes }
     ensures numbers { IfOk result (λ slots. AreFrom 0 (map (λ s. s.number) slots.items)) }
     ensures count { IfOk result (λ slots. vec_len slots ≡ P.given) }
 {
@@ -162,35 +159,8 @@ fn serve_each<'b, 'r, P: PassPlace + Send + Sync, R: Threads + Wait + Sync>(
     serve_slots(rt, alloc, site, plan, slots.as_mut_slice());
 }
 
-// Makes all requests over these slots, and gives the passes back. The memory for them is taken first.
-fn serve_passes<'b, 'r, P: PassPlace + Send + Sync, R: Threads + Wait + Sync>(
-    rt: &R,
-    alloc: Global,
-    site: &DrillSite,
-    plan: Plan,
-    slots: Vec<PassSlot<'b, 'r, P, R>>,
-) -> Result<PassesLeft, NoMemory>
-    requires numbers { AreFrom 0 (map (λ s. s.number) slots.items) }
-    requires count { vec_len slots ≡ P.given }
-    requires few { P.given ≤ MAX_THREADS }
-    requires threads { P.given ≡ plan.threads }
-    ensures back { IfOk result (λ left. AreBack P.table P.origin P.given left.passes) }
-    ensures counted { IfOk result (λ left. CountsDrill plan.seed plan.threads plan.requests left.bodies) }
-{
-    let mut passes = Vec::with_capacity(alloc, slots.len())?;
-    let mut slots = slots;
-    serve_each(rt, alloc, site, plan, &mut slots);
-    match empty_slots(slots, &mut passes) {
-        Some(bodies) => Ok(PassesLeft {
-            passes: PassList::from_vec(passes),
-            bodies,
-        }),
-        None => Err(NoMemory),
-    }
-}
-
 /// Makes all requests over a Book whose callers take turns, those of each thread over a desk with one of the passes, and
-/// gives the passes back.
+/// gives the passes back. The memory for them is taken first.
 pub(crate) fn serve_in_turns<'b, P: PassPlace + Send + Sync, R: Threads + Wait + Sync>(
     rt: &R,
     alloc: Global,
@@ -199,16 +169,21 @@ pub(crate) fn serve_in_turns<'b, P: PassPlace + Send + Sync, R: Threads + Wait +
     books: &'b [PassBook],
     passes: PassList,
 ) -> Result<PassesLeft, NoMemory>
-    requires book { (b : PassBook) × (books.now ≡ b ∷ []) × (table_in b ≡ P.table) }
-    requires passes { AreNewPasses P.origin P.table P.given passes }
-    requires few { P.given ≤ MAX_THREADS }
-    requires two { members P.origin.opening ≡ 2 }
+    requires place { AreDrillPasses P.table P.origin P.given books.now passes }
     requires threads { P.given ≡ plan.threads }
     ensures back { IfOk result (λ left. AreBack P.table P.origin P.given left.passes) }
 
     // The bytes of the bodies are those of the rows of the threads' sessions.
     ensures counted { IfOk result (λ left. CountsDrill plan.seed plan.threads plan.requests left.bodies) }
 {
-    let slots = slots_for::<P, R>(alloc, rt, books, passes)?;
-    serve_passes(rt, alloc, site, plan, slots)
+    let mut slots = slots_for::<P, R>(alloc, rt, books, passes)?;
+    let mut passes = Vec::with_capacity(alloc, slots.len())?;
+    serve_each(rt, alloc, site, plan, &mut slots);
+    match empty_slots(slots, &mut passes) {
+        Some(bodies) => Ok(PassesLeft {
+            passes: PassList::from_vec(passes),
+            bodies,
+        }),
+        None => Err(NoMemory),
+    }
 }

@@ -10,7 +10,7 @@ ghost use Rattle.lb_closing.specs.CloseErrors.{IsCloseError};
 ghost use Rattle.drill.specs.Counts.{CountsDrill};
 ghost use Rattle.drill.specs.Drills.{IsDrilled};
 ghost use Rattle.lb_closing.specs.Closings.{AreUncut, kept_from, noted};
-ghost use Rattle.drill.specs.Ends.{IsDrillError, IsDiscordFound, IsOfDrill, IsStarted, receipts_of};
+ghost use Rattle.drill.specs.Ends.{IsDrillError, IsDiscordFound, IsMeasured, IsOfDrill, IsStarted, receipts_of};
 ghost use Rattle.drill.specs.Requests.{bodies_of};
 ghost use Rattle.journal_text.specs.SegmentText.{segment_text};
 ghost use Rattle.drill.specs.Summaries.{IsJournalText, summary_text};
@@ -20,14 +20,14 @@ use crate::drill_error::{DrillError, Drilled};
 use crate::pass_slots::{PassesLeft, serve_in_turns};
 use crate::plan::{MAX_REQUESTS, MAX_THREADS, Plan};
 use crate::site::{BALANCER, DrillSite, book_config, drill_site};
-use crate::slots::{ThreadsLeft, serve_all};
+use crate::slots::{ThreadsLeft, UnusedShare, serve_all};
 use crate::summary::{bodies_of, summary};
 use jk_io::{Bytes, NoMemory};
 use journal_text::write_segment;
 use lb_book::{Book, BookList, Segment};
 use lb_closing::{CloseError, Closed, close_desks};
 use lb_passes::{PassBook, close_passes};
-use lb_shared::{DeskShare, MemShelf, SharedSite, Site, SiteBlank, SiteName};
+use lb_shared::{MemShelf, SharedSite, Site, SiteBlank, SiteName};
 use std::alloc::Global;
 use std::marker::Brand;
 use std::slice::from_ref;
@@ -42,12 +42,13 @@ struct Measured {
     receipts: u64,
 }
 
-/// As `Measured`, of all Books of a Site.
+/// As `Measured`, of all Books of a Site: one receipt of each entry that they added.
 #[derive(Drop)]
 struct Compared {
     books: BookList,
     bodies: u64,
     receipts: u64,
+    ghost compared: { receipts ≡ added_in books },
 }
 
 // The Book of a drill, as it starts.
@@ -84,34 +85,12 @@ fn drill_in<L: SiteName + Send + Sync, R: Threads + Wait + Sync>(
     ensures one { IfOk result (λ c. length c.books ≡ 1) }
     ensures books { IfOk result (λ c. All IsOfDrill c.books) }
     ensures counted { IfOk result (λ c. CountsDrill plan.seed plan.threads plan.requests c.bodies) }
-    ensures receipts { IfOk result (λ c. c.receipts ≡ added_in c.books) }
     ensures cause { IfErr result (IsCloseError IsDiscordFound) }
 {
     let SiteBlank { entries, cuts } = blank;
     let (opened, share) = Site::<L>::open(entries, books);
     let (shared, share) = SharedSite::new(rt, alloc, opened, share, cuts, 0)?;
-    drill_over(rt, alloc, site, plan, shared, share)
-}
-
-// As `drill_in`, over a Site behind its lock, with the whole share of it.
-fn drill_over<'r, L: SiteName + Send + Sync, R: Threads + Wait + Sync>(
-    rt: &'r R,
-    alloc: Global,
-    site: &DrillSite,
-    plan: Plan,
-    shared: SharedSite<'r, L, R>,
-    share: DeskShare<L>,
-) -> Result<Compared, CloseError<L>>
-    requires parts { (share.parts ≡ plan.threads) × (L.parts ≡ plan.threads) }
-    requires amount { share.amount ≡ 0 }
-    requires sizes { L.sizes ≡ 2 ∷ [] }
-    requires firsts { L.firsts ≡ 0 ∷ [] }
-    ensures sited { IfOk result (λ c. AreSited L.sizes L.firsts c.books) }
-    ensures counted { IfOk result (λ c. CountsDrill plan.seed plan.threads plan.requests c.bodies) }
-    ensures receipts { IfOk result (λ c. c.receipts ≡ added_in c.books) }
-    ensures cause { IfErr result (IsCloseError IsDiscordFound) }
-{
-    let left = serve_all(rt, alloc, site, plan, &shared, share)?;
+    let left = serve_all(rt, alloc, site, plan, &shared, UnusedShare { share })?;
     close_books(shared, left)
 }
 
@@ -122,7 +101,6 @@ fn close_books<'r, L: SiteName, R: Wait>(
 ) -> Result<Compared, CloseError<L>>
     requires some { 0 < length left.leaving }
     requires whole { sum_by (λ l. l.share.parts) left.leaving ≡ L.parts }
-    requires none_forgot { All (λ l. l.forgotten ≡ 0) left.leaving }
     requires sizes { L.sizes ≡ 2 ∷ [] }
     requires firsts { L.firsts ≡ 0 ∷ [] }
     ensures sited { IfOk result (λ c. AreSited L.sizes L.firsts c.books) }
@@ -130,7 +108,6 @@ fn close_books<'r, L: SiteName, R: Wait>(
         → IsPermutation (noted (flat_map (λ l. l.receipts) left.leaving)) (kept_from 0 c.books)) }
     ensures bodies { IfOk result (λ c. c.bodies ≡ left.bodies) }
     ensures counted { IfOk result (λ c. c.receipts ≡ sum_by (λ l. length l.receipts) left.leaving) }
-    ensures receipts { IfOk result (λ c. c.receipts ≡ added_in c.books) }
     ensures cause { IfErr result (IsCloseError IsDiscordFound) }
 {
     let ThreadsLeft { leaving, bodies } = left;
@@ -197,9 +174,7 @@ fn tell(
     wanted: Wanted,
     measured: Measured,
 ) -> Result<Drilled, DrillError>
-    requires book { IsOfDrill measured.book }
-    requires receipts { measured.receipts ≡ receipts_of wanted.passes measured.book.entries }
-    requires counted { CountsDrill plan.seed plan.threads plan.requests measured.bodies }
+    requires { IsMeasured plan.seed plan.threads plan.requests (receipts_of wanted.passes measured.book.entries) measured }
     ensures summary { wanted.text ≡ false
         → IfOk result (λ d. d.text ≡ summary_text plan.seed plan.threads plan.requests wanted.passes d.book.entries) }
     ensures journal { wanted.text ≡ true → IfOk result (λ d. IsJournalText d.book d.text) }
@@ -236,9 +211,7 @@ fn drilled_book<R: Threads + Wait + Sync>(
     site: &DrillSite,
     plan: Plan,
 ) -> Result<Measured, DrillError>
-    ensures book { IfOk result (λ m. IsOfDrill m.book) }
-    ensures counted { IfOk result (λ m. CountsDrill plan.seed plan.threads plan.requests m.bodies) }
-    ensures receipts { IfOk result (λ m. m.receipts ≡ length m.book.entries) }
+    ensures measured { IfOk result (λ m. IsMeasured plan.seed plan.threads plan.requests (length m.book.entries) m) }
     ensures cause { IfErr result (IsDrillError plan.seed plan.threads plan.requests) }
 {
     let books = one_book(alloc, start_book(alloc)?)?;
@@ -254,7 +227,6 @@ fn drilled_book<R: Threads + Wait + Sync>(
 fn whole(compared: Compared) -> Result<Measured, DrillError>
     requires one { length compared.books ≡ 1 }
     requires all { All IsOfDrill compared.books }
-    requires receipts { compared.receipts ≡ added_in compared.books }
     ensures book { IfOk result (λ m. IsOfDrill m.book) }
     ensures bodies { IfOk result (λ m. m.bodies ≡ compared.bodies) }
     ensures receipts { IfOk result (λ m. m.receipts ≡ length m.book.entries) }
@@ -296,9 +268,7 @@ fn passed_book<R: Threads + Wait + Sync>(
     site: &DrillSite,
     plan: Plan,
 ) -> Result<Measured, NoMemory>
-    ensures book { IfOk result (λ m. IsOfDrill m.book) }
-    ensures counted { IfOk result (λ m. CountsDrill plan.seed plan.threads plan.requests m.bodies) }
-    ensures receipts { IfOk result (λ m. m.receipts ≡ 0) }
+    ensures { IfOk result (IsMeasured plan.seed plan.threads plan.requests 0) }
 {
     let start = start_book(alloc)?;
     let (book, passes) = PassBook::new(alloc, start, plan.threads)?;
@@ -321,9 +291,7 @@ fn book_of<R: Threads + Wait + Sync>(
     plan: Plan,
     passes: bool,
 ) -> Result<Measured, DrillError>
-    ensures book { IfOk result (λ m. IsOfDrill m.book) }
-    ensures counted { IfOk result (λ m. CountsDrill plan.seed plan.threads plan.requests m.bodies) }
-    ensures receipts { IfOk result (λ m. m.receipts ≡ receipts_of passes m.book.entries) }
+    ensures measured { IfOk result (λ m. IsMeasured plan.seed plan.threads plan.requests (receipts_of passes m.book.entries) m) }
     ensures cause { IfErr result (IsDrillError plan.seed plan.threads plan.requests) }
 {
     let site = drill_site(alloc)?;

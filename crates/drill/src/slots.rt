@@ -21,31 +21,23 @@ use std::thread::{self, Threads};
 struct Slot<'s, 'r, L: SiteName, R> {
     desk: SharedDesk<'s, 'r, L, MemShelf, R>,
     made: Option<u64>,
+    ghost whole: { IsWholeDesk (2 ∷ []) desk.desk },
 }
 
-/// What the threads leave: their desks' receipts, and the bytes of all bodies.
+/// A share of the ledger of a drill's Site, to which no entry was counted yet.
+#[derive(Drop)]
+pub(crate) struct UnusedShare<L: SiteName> {
+    pub(crate) share: DeskShare<L>,
+    pub ghost amount: { share.amount ≡ 0 },
+    pub ghost sizes: { L.sizes ≡ 2 ∷ [] },
+}
+
+/// What the threads leave: their desks' receipts, of which none was forgotten, and the bytes of all bodies.
 #[derive(Drop)]
 pub(crate) struct ThreadsLeft<L: SiteName> {
     pub(crate) leaving: LeavingList<L, MemShelf>,
     pub(crate) bodies: u64,
-}
-
-// A slot with a part of the ledger.
-fn slot_of<'s, 'r, L: SiteName, R>(
-    alloc: Global,
-    shared: &'s SharedSite<'r, L, R>,
-    share: DeskShare<L>,
-) -> Slot<'s, 'r, L, R>
-    requires part { share.parts ≡ 1 }
-    requires amount { share.amount ≡ 0 }
-    requires sizes { L.sizes ≡ 2 ∷ [] }
-    ensures { IsWholeDesk (2 ∷ []) result.desk.desk }
-{
-    let shelf = MemShelf::new(KeptList::new(alloc), NumberList::new(alloc));
-    Slot {
-        desk: SharedDesk::new(alloc, shared, share, shelf),
-        made: None,
-    }
+    pub ghost none_forgot: { All (λ l. l.forgotten ≡ 0) leaving },
 }
 
 // Adds a slot with a part of the ledger at the end.
@@ -53,18 +45,19 @@ fn put_slot<'s, 'r, L: SiteName, R>(
     alloc: Global,
     slots: &mut Vec<Slot<'s, 'r, L, R>>,
     shared: &'s SharedSite<'r, L, R>,
-    share: DeskShare<L>,
+    part: UnusedShare<L>,
 )
-    requires part { share.parts ≡ 1 }
-    requires amount { share.amount ≡ 0 }
-    requires sizes { L.sizes ≡ 2 ∷ [] }
+    requires part { part.share.parts ≡ 1 }
     requires room { vec_len slots.old < vec_capacity slots.old }
-    ensures whole { All (λ s. IsWholeDesk (2 ∷ []) s.desk.desk) slots.old.items
-        → All (λ s. IsWholeDesk (2 ∷ []) s.desk.desk) slots.new.items }
     ensures len { vec_len slots.new ≡ vec_len slots.old + 1 }
     ensures capacity { vec_capacity slots.new ≡ vec_capacity slots.old }
 {
-    slots.push_reserved(slot_of(alloc, shared, share));
+    let UnusedShare { share } = part;
+    let shelf = MemShelf::new(KeptList::new(alloc), NumberList::new(alloc));
+    slots.push_reserved(Slot {
+        desk: SharedDesk::new(alloc, shared, share, shelf),
+        made: None,
+    });
 }
 
 // A slot for each part of the share.
@@ -72,19 +65,17 @@ fn fill_slots<'s, 'r, L: SiteName, R>(
     alloc: Global,
     slots: &mut Vec<Slot<'s, 'r, L, R>>,
     shared: &'s SharedSite<'r, L, R>,
-    share: &mut DeskShare<L>,
+    unused: &mut UnusedShare<L>,
     threads: u32,
 )
     requires none { slots.old.items ≡ [] }
     requires room { threads ≤ vec_capacity slots.old }
-    requires parts { share.old.parts ≡ threads }
-    requires amount { share.old.amount ≡ 0 }
-    requires sizes { L.sizes ≡ 2 ∷ [] }
-    ensures whole { All (λ s. IsWholeDesk (2 ∷ []) s.desk.desk) slots.new.items }
+    requires parts { unused.old.share.parts ≡ threads }
     ensures count { vec_len slots.new ≡ threads }
 {
     'slots: for _ in 0..threads {
-        put_slot(alloc, slots, shared, share.split_off(1));
+        let share = unused.share.split_off(1);
+        put_slot(alloc, slots, shared, UnusedShare { share });
     }
 }
 
@@ -92,18 +83,15 @@ fn fill_slots<'s, 'r, L: SiteName, R>(
 fn slots_for<'s, 'r, L: SiteName, R>(
     alloc: Global,
     shared: &'s SharedSite<'r, L, R>,
-    share: DeskShare<L>,
+    unused: UnusedShare<L>,
     threads: u32,
 ) -> Result<Vec<Slot<'s, 'r, L, R>>, NoMemory>
-    requires parts { share.parts ≡ threads }
-    requires amount { share.amount ≡ 0 }
-    requires sizes { L.sizes ≡ 2 ∷ [] }
-    ensures whole { IfOk result (λ slots. All (λ s. IsWholeDesk (2 ∷ []) s.desk.desk) slots.items) }
+    requires parts { unused.share.parts ≡ threads }
     ensures count { IfOk result (λ slots. vec_len slots ≡ threads) }
 {
-    let mut share = share;
+    let mut unused = unused;
     let mut slots = Vec::with_capacity(alloc, threads as usize)?;
-    fill_slots(alloc, &mut slots, shared, &mut share, threads);
+    fill_slots(alloc, &mut slots, shared, &mut unused, threads);
     Ok(slots)
 }
 
@@ -116,8 +104,6 @@ fn serve_slot<L: SiteName, R: Wait>(
     slot: &mut Slot<'_, '_, L, R>,
 )
     requires few { number < MAX_THREADS }
-    requires whole { IsWholeDesk (2 ∷ []) slot.old.desk.desk }
-    ensures whole { IsWholeDesk (2 ∷ []) slot.new.desk.desk }
     ensures made { IsMadeBy site.now plan number slot.new.made }
 {
     let served = serve_thread(alloc, site, plan, number as u32, &mut slot.desk);
@@ -133,8 +119,6 @@ fn serve_slots<'s, 'r, L: SiteName + Send + Sync, R: Threads + Wait + Sync>(
     slots: &mut [Slot<'s, 'r, L, R>],
 )
     requires few { length slots.old ≤ MAX_THREADS }
-    requires whole { All (λ s. IsWholeDesk (2 ∷ []) s.desk.desk) slots.old }
-    ensures whole { (i : ℕ) (d : _) → i < length slots.old → IsWholeDesk (2 ∷ []) (slice_index_or slots.new i d).desk.desk }
     ensures made { (i : ℕ) (d : _) → i < length slots.old → IsMadeBy site.now plan i (slice_index_or slots.new i d).made }
     ensures len { length slots.new ≡ length slots.old }
 {
@@ -145,8 +129,7 @@ fn serve_slots<'s, 'r, L: SiteName + Send + Sync, R: Threads + Wait + Sync>(
         count,
         &|number: usize, slot: &mut Slot<L, R>|
             requires few { number < MAX_THREADS }
-            requires whole { IsWholeDesk (2 ∷ []) slot.old.desk.desk }
-            ensures { IsWholeDesk (2 ∷ []) slot.new.desk.desk × IsMadeBy site.entry.now plan number slot.new.made }
+            ensures { IsMadeBy site.entry.now plan number slot.new.made }
         {
             serve_slot(alloc, site, plan, number, slot);
         },
@@ -158,7 +141,6 @@ fn empty_slots<'s, 'r, L: SiteName, R>(
     slots: Vec<Slot<'s, 'r, L, R>>,
     leaving: &mut Vec<Leaving<L, MemShelf>>,
 ) -> Option<u64>
-    requires whole { All (λ s. IsWholeDesk (2 ∷ []) s.desk.desk) slots.items }
     requires none { leaving.old.items ≡ [] }
     requires room { vec_len slots ≤ vec_capacity leaving.old }
     ensures parts { sum_by (λ l. l.share.parts) leaving.new.items ≡ vec_len slots.entry }
@@ -180,12 +162,10 @@ fn left_in<'s, 'r, L: SiteName, R>(
     slots: Vec<Slot<'s, 'r, L, R>>,
     leaving: Vec<Leaving<L, MemShelf>>,
 ) -> Result<ThreadsLeft<L>, NoMemory>
-    requires whole { All (λ s. IsWholeDesk (2 ∷ []) s.desk.desk) slots.items }
     requires none { leaving.items ≡ [] }
     requires room { vec_len slots ≤ vec_capacity leaving }
     ensures parts { IfOk result (λ left. sum_by (λ l. l.share.parts) left.leaving ≡ vec_len slots.entry) }
     ensures count { IfOk result (λ left. length left.leaving ≡ vec_len slots.entry) }
-    ensures none_forgot { IfOk result (λ left. All (λ l. l.forgotten ≡ 0) left.leaving) }
     ensures bodies { IfOk result (λ left. all_together (map (λ s. s.made) slots.entry.items) ≡ Some left.bodies) }
 {
     let mut leaving = leaving;
@@ -207,54 +187,31 @@ fn serve_each<'s, 'r, L: SiteName + Send + Sync, R: Threads + Wait + Sync>(
     slots: &mut Vec<Slot<'s, 'r, L, R>>,
 )
     requires few { vec_len slots.old ≤ MAX_THREADS }
-    requires whole { All (λ s. IsWholeDesk (2 ∷ []) s.desk.desk) slots.old.items }
-    ensures whole { All (λ s. IsWholeDesk (2 ∷ []) s.desk.desk) slots.new.items }
     ensures made { AreMade site.now plan (map (λ s. s.made) slots.new.items) }
     ensures len { vec_len slots.new ≡ vec_len slots.old }
 {
     serve_slots(rt, alloc, site, plan, slots.as_mut_slice());
 }
 
-// Makes all requests over these slots. The memory for what they leave is taken first.
-fn serve_and_leave<'s, 'r, L: SiteName + Send + Sync, R: Threads + Wait + Sync>(
-    rt: &R,
-    alloc: Global,
-    site: &DrillSite,
-    plan: Plan,
-    slots: Vec<Slot<'s, 'r, L, R>>,
-) -> Result<ThreadsLeft<L>, NoMemory>
-    requires count { vec_len slots ≡ plan.threads }
-    requires whole { All (λ s. IsWholeDesk (2 ∷ []) s.desk.desk) slots.items }
-    ensures parts { IfOk result (λ left. sum_by (λ l. l.share.parts) left.leaving ≡ plan.threads) }
-    ensures some { IfOk result (λ left. 0 < length left.leaving) }
-    ensures none_forgot { IfOk result (λ left. All (λ l. l.forgotten ≡ 0) left.leaving) }
-    ensures counted { IfOk result (λ left. CountsDrill plan.seed plan.threads plan.requests left.bodies) }
-{
-    let leaving = Vec::with_capacity(alloc, slots.len())?;
-    let mut slots = slots;
-    serve_each(rt, alloc, site, plan, &mut slots);
-    left_in(slots, leaving)
-}
-
-/// Makes all requests, those of each thread over a desk of its own, and has the desks leave.
+/// Makes all requests, those of each thread over a desk of its own, and has the desks leave. The memory for what they leave is
+/// taken first.
 pub(crate) fn serve_all<'s, 'r, L: SiteName + Send + Sync, R: Threads + Wait + Sync>(
     rt: &R,
     alloc: Global,
     site: &DrillSite,
     plan: Plan,
     shared: &'s SharedSite<'r, L, R>,
-    share: DeskShare<L>,
+    unused: UnusedShare<L>,
 ) -> Result<ThreadsLeft<L>, NoMemory>
-    requires parts { share.parts ≡ plan.threads }
-    requires amount { share.amount ≡ 0 }
-    requires sizes { L.sizes ≡ 2 ∷ [] }
+    requires parts { unused.share.parts ≡ plan.threads }
     ensures parts { IfOk result (λ left. sum_by (λ l. l.share.parts) left.leaving ≡ plan.threads) }
     ensures some { IfOk result (λ left. 0 < length left.leaving) }
-    ensures none_forgot { IfOk result (λ left. All (λ l. l.forgotten ≡ 0) left.leaving) }
 
     // The bytes of the bodies are those of the rows of the threads' sessions.
     ensures counted { IfOk result (λ left. CountsDrill plan.seed plan.threads plan.requests left.bodies) }
 {
-    let slots = slots_for(alloc, shared, share, plan.threads)?;
-    serve_and_leave(rt, alloc, site, plan, slots)
+    let mut slots = slots_for(alloc, shared, unused, plan.threads)?;
+    let leaving = Vec::with_capacity(alloc, slots.len())?;
+    serve_each(rt, alloc, site, plan, &mut slots);
+    left_in(slots, leaving)
 }

@@ -1,7 +1,20 @@
+-- All passes are back, with the numbers that the slots had, and the threads' counts are together.
+use Rattle.std.proofs.Common.{◌∙◌, List, arith, subst, sym}
+use Rattle.std.proofs.lemmas.List.{length-map}
+use Rattle.drill.proofs.CountLaws.{drill_counts}
+use Rattle.lb_passes.specs.Placed.{AreBack}
+use Rattle.lb_passes.specs.declared.pass.Pass.{Pass}
+use Rattle.drill.proofs.PassLaws.{passes_back}
 use Rattle.drill.proofs.pass_slots.serve_in_turns.Goals as goal
 
-pub returns-clause-back : goal.returns-clause-back
-returns-clause-back g c = c.serve_passes.ensures.back
+pub returns-in-Some-clause-back : goal.returns-in-Some-clause-back
+returns-in-Some-clause-back g c =
+    subst (λ (ps : List Pass). AreBack g.P.PassPlace.table g.P.PassPlace.origin g.P.PassPlace.given ps) (sym c.from_vec.ensures)
+    (passes_back _ _ _ _ c.in_ok-slots.slots.items _ (c.empty_slots.ensures.numbers ∙ c.serve_each.ensures.numbers)
+    (omega (arith, c.in_ok-slots.ensures.count, c.in_ok-slots.slots.ok.0)) c.in_ok-slots.ensures.numbers c.empty_slots.ensures.back)
 
-pub returns-clause-counted : goal.returns-clause-counted
-returns-clause-counted g c = c.serve_passes.ensures.counted
+pub returns-in-Some-clause-counted : goal.returns-in-Some-clause-counted
+returns-in-Some-clause-counted g c =
+    drill_counts c.args.site.now c.args.plan _ _
+    (omega (arith, length-map c.serve_each.new.slots.items (λ s. s.made), c.in_ok-slots.ensures.count, c.requires.threads, c.serve_each.ensures.len, c.serve_each.new.slots.ok.0))
+    c.serve_each.ensures.made (sym c.empty_slots.ensures.bodies ∙ c.in-Some.is)

@@ -12,9 +12,9 @@ passes-init g c =
     record {
       next =
           subst (λ (n : ℕ). AreNext o g.P.PassPlace.table g.P.PassPlace.given n c.into_iter-pass-iterator.result.rest.items) (sym (ap length none))
-          (new_next _ _ _ c.args.passes _ (all ∙ c.into_vec-passes.ensures) c.requires.passes);
+          (new_next _ _ _ c.args.passes _ (all ∙ c.into_vec-passes.ensures) c.requires.dealt);
       numbers = rw none tt;
-      count = omega (arith, ap length none, c.in_ok-slots.slots.ok.0, ap length (all ∙ c.into_vec-passes.ensures), c.requires.passes.many);
+      count = omega (arith, ap length none, c.in_ok-slots.slots.ok.0, ap length (all ∙ c.into_vec-passes.ensures), c.requires.dealt.many);
       room =
           omega (arith, ap length none, c.in_ok-slots.slots.ok.0, ap length all, c.into_vec-passes.result.ok.0, c.in_ok-slots.ensures.capacity);
     }

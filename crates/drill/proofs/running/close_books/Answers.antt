@@ -9,10 +9,10 @@ pub returns-clause-sited : goal.returns-clause-sited
 returns-clause-sited g c = c.in_ok-books.ensures.sited
 
 pub returns-clause-once : goal.returns-clause-once
-returns-clause-once g c = c.in_ok-books.ensures.once c.requires.none_forgot
+returns-clause-once g c = c.in_ok-books.ensures.once c.args.left.none_forgot
 
 pub returns-clause-counted : goal.returns-clause-counted
 returns-clause-counted g c =
     c.in_ok-books.ensures.counted
     ∙ all_receipts {A = Leaving g.row.L.Denot MemShelf} (λ l. l.share.amount) (λ l. length l.receipts) (λ l. l.forgotten) _
-    (λ l. l.counted) c.requires.none_forgot
+    (λ l. l.counted) c.args.left.none_forgot

@@ -1,21 +1,20 @@
 -- The passes belong to the one table, and all of them are back.
-use Rattle.std.proofs.Common.{◌∙◌, ap, sym}
+use Rattle.std.proofs.Common.{◌∙◌, ap, refl, sym}
 use Rattle.lb_model.specs.Journal.{members}
 use Rattle.lb_passes.proofs.PlacedLaws.{all_back, new_origin, new_table}
 use Rattle.lb_passes.specs.declared.pass_view.Origin.{Origin}
 use Rattle.drill.proofs.PassLaws.{belong, closed_drill, closed_there}
 use Rattle.drill.proofs.running.passed_book.Goals as goal
 
-pub serve_in_turns-requires-clause-book : goal.serve_in_turns-requires-clause-book
-serve_in_turns-requires-clause-book g c κs within =
-    let new = c.in_ok-book.ensures in (c.in_ok-book.book, c.from_ref.ensures.value, sym (new_table _ _ _ _ c.args.plan.some_threads new))
-
-pub serve_in_turns-requires-clause-passes : goal.serve_in_turns-requires-clause-passes
-serve_in_turns-requires-clause-passes g c κs within = belong c.in_ok-start.start _ _ _ c.args.plan.some_threads c.in_ok-book.ensures
-
-pub serve_in_turns-requires-clause-two : goal.serve_in_turns-requires-clause-two
-serve_in_turns-requires-clause-two g c κs within =
-    ap (λ (o : Origin). members o.opening) (new_origin _ _ _ _ c.args.plan.some_threads c.in_ok-book.ensures) ∙ c.in_ok-start.ensures.start.two
+pub serve_in_turns-requires-clause-place : goal.serve_in_turns-requires-clause-place
+serve_in_turns-requires-clause-place g c κs within =
+    let new = c.in_ok-book.ensures in
+    record {
+      book = (c.in_ok-book.book, c.from_ref.ensures.value, sym (new_table _ _ _ _ c.args.plan.some_threads new));
+      dealt = belong c.in_ok-start.start _ _ _ c.args.plan.some_threads new;
+      few = c.args.plan.few_threads;
+      two = ap (λ (o : Origin). members o.opening) (new_origin _ _ _ _ c.args.plan.some_threads new) ∙ c.in_ok-start.ensures.start.two;
+    }
 
 pub close_passes-requires : goal.close_passes-requires
 close_passes-requires g c = record {
@@ -24,6 +23,10 @@ close_passes-requires g c = record {
       (all_back _ _ _ _ c.args.plan.some_threads c.in_ok-left.ensures.back);
 }
 
-pub returns-in-Ok-clause-book : goal.returns-in-Ok-clause-book
-returns-in-Ok-clause-book g c =
-    closed_drill _ _ _ _ _ _ c.in_ok-start.ensures.start (new_origin _ _ _ _ c.args.plan.some_threads c.in_ok-book.ensures) c.in_ok-left.ensures.back c.in-Ok.ensures
+pub returns-in-Ok : goal.returns-in-Ok
+returns-in-Ok g c = record {
+  book =
+      closed_drill _ _ _ _ _ _ c.in_ok-start.ensures.start (new_origin _ _ _ _ c.args.plan.some_threads c.in_ok-book.ensures) c.in_ok-left.ensures.back c.in-Ok.ensures;
+  counted = c.in_ok-left.ensures.counted;
+  compared = refl;
+}

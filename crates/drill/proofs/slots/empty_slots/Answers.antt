@@ -1,11 +1,9 @@
 use Rattle.std.proofs.Common.{◌≡◌, [], ◌∷◌, length, sym, ap, ◌∙◌, sum_by, arith}
 use Rattle.std.proofs.lemmas.List.{length-append}
-use Rattle.std.proofs.lemmas.List.Elements.{All-head, All-push, All-rest, All-same}
+use Rattle.std.proofs.lemmas.List.Elements.{All-push, All-same}
 use Rattle.std.proofs.lemmas.List.Sums.{sum_by_push}
 use Rattle.lb_shared.specs.declared.mem_shelf.MemShelf.{MemShelf}
 use Rattle.lb_shared.specs.declared.shared_desk.Leaving.{Leaving}
-use Rattle.drill.specs.Threads.{IsWholeDesk}
-use Rattle.drill.specs.declared.slots.Slot.{Slot}
 use Rattle.drill.proofs.BodyLaws.{none_together, one_together}
 use Rattle.drill.proofs.SlotLaws.{none-forgotten, one-left}
 use Rattle.drill.proofs.slots.empty_slots.Goals as goal
@@ -17,14 +15,11 @@ slots-preserved g c =
     let rest = ap length first in
     let pushed = c.push_reserved.ensures.items in
     let more = ap length pushed in
-    let here =
-    All-head {X = Slot g.row.L.Denot g.row.R.Denot} (λ s. IsWholeDesk (2 ∷ []) s.desk.desk) _ _
-    (All-same (λ s. IsWholeDesk (2 ∷ []) s.desk.desk) _ _ (sym first) inv.whole) in
+    let here = c.in-Some.slot.whole in
     let part = one-left _ _ here.one_part c.leave.ensures.parts in
     let forgot =
     none-forgotten _ _ _ _ c.leave.ensures.amount (here.counted ∙ ap length (sym c.leave.ensures.receipts)) c.leave.result.counted in
     record {
-      whole = All-rest {X = Slot g.row.L.Denot g.row.R.Denot} (λ s. IsWholeDesk (2 ∷ []) s.desk.desk) _ _ _ first inv.whole;
       parts =
           let sum =
           ap (sum_by {X = Leaving g.row.L.Denot MemShelf} (λ x. x.share.parts)) pushed

@@ -1,14 +1,12 @@
 -- The leavings of the desks so far, and room for those of the others.
-use Rattle.std.proofs.Common.{◌≡◌, ◌+◌, ◌≤◌, [], ◌∷◌, fold, length, map}
+use Rattle.std.proofs.Common.{◌≡◌, ◌+◌, ◌≤◌, fold, length, map}
 use Rattle.std.specs.Prelude.{sum_by, vec_capacity, vec_len}
 use Rattle.std.specs.List.{All}
 use Rattle.drill.specs.Bodies.{all_together, together}
-use Rattle.drill.specs.Threads.{IsWholeDesk}
 use Rattle.drill.proofs.slots.empty_slots.Given as goal
 
 abbrev pub invariant-slots : goal.invariant-slots
 invariant-slots g l = record {
-  whole : All (λ s. IsWholeDesk (2 ∷ []) s.desk.desk) l.slot-iterator.rest.items;
   parts : sum_by (λ x. x.share.parts) l.leaving.items + length l.slot-iterator.rest.items ≡ vec_len l.fn.slots;
   count : length l.leaving.items + length l.slot-iterator.rest.items ≡ vec_len l.fn.slots;
   none_forgot : All (λ x. x.forgotten ≡ 0) l.leaving.items;

@@ -1,13 +1,20 @@
+use Rattle.std.proofs.Common.{arith}
+use Rattle.std.proofs.lemmas.List.{length-map}
+use Rattle.drill.proofs.CountLaws.{counts_left}
+use Rattle.drill.proofs.SlotLaws.{as_many, some_left}
 use Rattle.drill.proofs.slots.serve_all.Goals as goal
 
 pub returns-clause-parts : goal.returns-clause-parts
-returns-clause-parts g c = c.serve_and_leave.ensures.parts
+returns-clause-parts g c =
+    as_many c.left_in.result _ _ _ c.left_in.ensures.parts (omega (arith, c.in_ok-slots.ensures.count, c.serve_each.ensures.len))
 
 pub returns-clause-some : goal.returns-clause-some
-returns-clause-some g c = c.serve_and_leave.ensures.some
-
-pub returns-clause-none_forgot : goal.returns-clause-none_forgot
-returns-clause-none_forgot g c = c.serve_and_leave.ensures.none_forgot
+returns-clause-some g c =
+    some_left c.left_in.result _ _ c.left_in.ensures.count
+    (omega (arith, c.in_ok-slots.ensures.count, c.serve_each.ensures.len, c.args.plan.some_threads))
 
 pub returns-clause-counted : goal.returns-clause-counted
-returns-clause-counted g c = c.serve_and_leave.ensures.counted
+returns-clause-counted g c =
+    counts_left _ c.args.site.now c.args.plan _ c.left_in.result
+    (omega (arith, length-map c.serve_each.new.slots.items (λ s. s.made), c.in_ok-slots.ensures.count, c.serve_each.ensures.len, c.serve_each.new.slots.ok.0))
+    c.serve_each.ensures.made c.left_in.ensures.bodies
