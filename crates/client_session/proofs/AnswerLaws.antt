@@ -29,7 +29,6 @@ use Rattle.client_session.specs.declared.ending.Why.TheVariants as why
 use Rattle.client_session.specs.declared.turn.Answered.{Answered}
 use Rattle.client_session.specs.declared.turn.Answered.TheVariants as answered
 use Rattle.client_session.specs.declared.turn.Settled.{Settled}
-use Rattle.client_session.proofs.WritingLaws.{own_no_fewer}
 
 abbrev pub line_of : Head → Asked
 line_of head = asked.Line head.method head.target head.old
@@ -182,14 +181,6 @@ pub rises_early : (bytes : List ℕ) (s n : Moment) (stop' : SessionStop) (settl
 rises_early bytes s n stop' settled broken is =
     subst (λ (x : Settled). RisesInAnswer x.answered s.faults n.faults) (sym is) (rises_early_by bytes s n stop' broken)
 
-pub no_fewer_early : (bytes : List ℕ) (s n : Moment) (stop' : SessionStop) → BreaksOff bytes s n stop' → s.faults ≤ n.faults
-no_fewer_early bytes s n stop' (inl wanted) = subst (λ (m : Moment). s.faults ≤ m.faults) (sym wanted.1) (omega arith)
-no_fewer_early bytes s n (stop.Closed w) (inr writes) = absurd writes
-no_fewer_early bytes s n stop.ClientFault (inr writes) = writes.1.no_fewer
-no_fewer_early bytes s n stop.Truncated (inr writes) = absurd writes
-no_fewer_early bytes s n (stop.Stray ticket returned_at) (inr writes) = absurd writes
-no_fewer_early bytes s n stop.NoMemory (inr writes) = let steady = writes.steady in omega arith
-
 -- ---- a request that is mounted nowhere
 
 not_found_by : (v : Visit) (head : Head) (s : ClientStanding) (w : Moment) (x : SessionStop) → mounted_at v head ≡ None → WritesOwn 404 (own_kind_at v head) s.client w x
@@ -254,10 +245,6 @@ not_found_rises v head s n settled (inl (same, is)) =
     subst (λ (x : Settled). RisesInAnswer x.answered s.faults n.faults) (sym is) (ap (λ (m : Moment). m.faults) same)
 not_found_rises v head s n settled (inr (stop', writes, is)) =
     subst (λ (x : Settled). RisesInAnswer x.answered s.faults n.faults) (sym is) (not_found_rises_by (own_kind_at v head) (is_head head) (line_of head) s n stop' writes)
-
-pub not_found_no_fewer : (v : Visit) (head : Head) (s n : Moment) (settled : Settled) → IsNotFound v head s n settled → s.faults ≤ n.faults
-not_found_no_fewer v head s n settled (inl (same, is)) = subst (λ (m : Moment). s.faults ≤ m.faults) (sym same) (omega arith)
-not_found_no_fewer v head s n settled (inr (stop', writes, is)) = own_no_fewer 404 (own_kind_at v head) s n stop' writes
 
 -- ---- a request that goes on to its worker
 

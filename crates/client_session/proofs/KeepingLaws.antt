@@ -4,6 +4,7 @@ use Rattle.std.specs.Prelude.{vec_capacity}
 use Rattle.jk_io.specs.declared.reaching.Beside.{Beside}
 use Rattle.jk_io.specs.declared.traits.streams.Meanings.{Ghosts}
 use Rattle.lb_model.specs.declared.served.Asked.{Asked}
+use Rattle.ajp_talk.specs.Moments.{KeepsLink}
 use Rattle.lb_book.specs.Desks.{DeskState, MeetsNone}
 use Rattle.http_front.specs.declared.body.BodyIn.{BodyIn}
 use Rattle.http_front.specs.declared.head.Head.{Head}
@@ -29,20 +30,19 @@ use Rattle.client_session.specs.declared.turn.Answered.{Answered}
 use Rattle.client_session.specs.declared.turn.Settled.{Settled}
 use Rattle.client_session.proofs.AnswerLaws.{line_of, shown_stop, shown_whole, stop_known, stop_meets, stop_rises}
 use Rattle.client_session.proofs.SessionLaws.{ready_same}
-use Rattle.client_session.proofs.SurroundingsLaws.{no_fewer_at, no_fewer_twice}
+use Rattle.client_session.proofs.SurroundingsLaws.{keeps_still, no_fewer_twice}
 
 -- the reach wasn't asked
 pub keeps_by : {B K R C X : Type 0} (state : B → DeskState) (of_reach : Ghosts R Beside) (of_client : Ghosts C X) (v : Visit) (s n : Surroundings B K R C)
     → IsReady v (state s.desk.now) (of_reach.beside s.reach.now) → KeepsTickets v.session (state s.desk.now) (state n.desk.now)
     → of_reach.beside n.reach.now ≡ of_reach.beside s.reach.now → of_reach.faults n.reach.now ≡ of_reach.faults s.reach.now
-    → of_client.beside n.client.now ≡ of_client.beside s.client.now → of_client.faults s.client.now ≤ of_client.faults n.client.now
-    → AreSame s n → KeepsAround state of_reach of_client v s n
-keeps_by state of_reach of_client v s n ready kept still as_many beside faults same = record {
+    → KeepsLink of_client s.client.now n.client.now → AreSame s n → KeepsAround state of_reach of_client v s n
+keeps_by state of_reach of_client v s n ready kept still as_many client same = record {
   ready = ready_same _ _ _ _ _ ready kept still;
   kept = kept;
-  beside = beside;
+  beside = client.beside;
   reach_faults = omega (arith, as_many);
-  client_faults = faults;
+  client_faults = client.no_fewer;
   same = same;
 }
 
@@ -50,7 +50,7 @@ keeps_by state of_reach of_client v s n ready kept still as_many beside faults s
 pub keeps_all : {B K R C X : Type 0} (state : B → DeskState) (of_reach : Ghosts R Beside) (of_client : Ghosts C X) (v : Visit) (s : Surroundings B K R C)
     → IsReady v (state s.desk.now) (of_reach.beside s.reach.now) → KeepsAround state of_reach of_client v s s
 keeps_all state of_reach of_client v s ready =
-    keeps_by state of_reach of_client v s s ready (untouched _ _) refl refl refl (no_fewer_at of_client.faults _ _ refl) (refl, refl, refl, refl, refl)
+    keeps_by state of_reach of_client v s s ready (untouched _ _) refl refl (keeps_still of_client _) (refl, refl, refl, refl, refl)
 
 pub keeps_twice : {B K R C X : Type 0} (state : B → DeskState) (of_reach : Ghosts R Beside) (of_client : Ghosts C X) (v : Visit) (s m n : Surroundings B K R C)
     → KeepsAround state of_reach of_client v s m → KeepsAround state of_reach of_client v m n → KeepsAround state of_reach of_client v s n
@@ -66,9 +66,6 @@ keeps_twice state of_reach of_client v s m n first second = record {
 -- where the faults were as many when the answer began, they rise from there
 pub rises_from : (a : Answered) (before mid now : ℕ) → mid ≡ before → RisesInAnswer a mid now → RisesInAnswer a before now
 rises_from a before mid now same rises = subst (λ (k : ℕ). RisesInAnswer a k now) same rises
-
-pub as_many_since : (before now : ℕ) → now ≡ before → before ≤ now
-as_many_since before now same = omega (arith, same)
 
 -- ---- a status worker's answer
 

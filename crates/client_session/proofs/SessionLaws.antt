@@ -100,20 +100,6 @@ refused_rises date form first s n puts stop.Truncated steady (inr written) = abs
 refused_rises date form first s n puts (stop.Stray ticket returned_at) steady (inr written) = tt
 refused_rises date form first s n puts stop.NoMemory steady (inr written) = written.0.steady ∙ steady
 
-refused_no_fewer : (date : Option HttpDate) (form : Form) (s n : Moment) (puts : List Served → Type 0) (stop' : SessionStop) → RefusesHead date form s n puts stop' → s.faults ≤ n.faults
-refused_no_fewer date form s n puts stop' (inl wanted) = subst (λ (m : Moment). s.faults ≤ m.faults) (sym wanted.1) (omega arith)
-refused_no_fewer date form s n puts (stop.Closed why.ByClient) (inr written) = absurd written.0
-refused_no_fewer date form s n puts (stop.Closed why.Idle) (inr written) = absurd written.0
-refused_no_fewer date form s n puts (stop.Closed why.Last) (inr written) = absurd written.0
-refused_no_fewer date form s n puts (stop.Closed (why.Own code)) (inr written) = omega (arith, written.0.1.steady)
-refused_no_fewer date form s n puts (stop.Closed (why.Refused refusal)) (inr written) = absurd written.0
-refused_no_fewer date form s n puts (stop.Closed why.Cut) (inr written) = absurd written.0
-refused_no_fewer date form s n puts (stop.Closed why.Unread) (inr written) = absurd written.0
-refused_no_fewer date form s n puts stop.ClientFault (inr written) = written.0.1.no_fewer
-refused_no_fewer date form s n puts stop.Truncated (inr written) = absurd written.0
-refused_no_fewer date form s n puts (stop.Stray ticket returned_at) (inr written) = absurd written.0
-refused_no_fewer date form s n puts stop.NoMemory (inr written) = omega (arith, written.0.steady)
-
 -- ---- no head
 
 -- No head was read, for this reason, and none of the client's bytes was used.
@@ -172,12 +158,6 @@ rises_without_head date s read n error.Fault puts stop' reads stops =
 rises_without_head date s read n error.NoMemory puts stop' reads stops =
     subst (λ (x : SessionStop). RisesBy x s.client.faults n.faults) (sym stops.0)
     (ap (λ (m : Moment). m.faults) stops.1 ∙ reads.steady tt)
-
-pub no_fewer_without_head : (date : Option HttpDate) (e : HeadError) (s n : Moment) (puts : List Served → Type 0) (stop' : SessionStop) → StopsWithoutHead date e s n puts stop' → s.faults ≤ n.faults
-no_fewer_without_head date (error.Refused status form) s n puts stop' stops = refused_no_fewer date form s n puts stop' stops
-no_fewer_without_head date error.Truncated s n puts stop' stops = subst (λ (m : Moment). s.faults ≤ m.faults) (sym stops.1) (omega arith)
-no_fewer_without_head date error.Fault s n puts stop' stops = subst (λ (m : Moment). s.faults ≤ m.faults) (sym stops.1) (omega arith)
-no_fewer_without_head date error.NoMemory s n puts stop' stops = subst (λ (m : Moment). s.faults ≤ m.faults) (sym stops.1) (omega arith)
 
 -- the client's bytes ended between two requests
 pub ends_by_client : (v : Visit) (number : ℕ) (s n : ClientStanding) (puts : List Served → Type 0) → puts [] → ReadsEnd s n

@@ -1,9 +1,10 @@
 -- Surroundings that were lent come back: a fact of the struct is one of each value by itself.
-use Rattle.std.proofs.Common.{◌≡◌, ◌≤◌, ℕ, List, Option, Some, slice_get, sym, ap, ◌∙◌, subst, arith}
+use Rattle.std.proofs.Common.{◌≡◌, ◌≤◌, ℕ, List, Option, Some, slice_get, refl, sym, ap, ◌∙◌, subst, arith}
 use Rattle.jk_io.specs.declared.reaching.Beside.{Beside}
 use Rattle.jk_io.specs.declared.traits.streams.Meanings.{Ghosts}
 use Rattle.http_front.specs.declared.body.BodyIn.{BodyIn}
 use Rattle.site_config.specs.declared.balancer.Lb.{Lb}
+use Rattle.ajp_talk.specs.Moments.{KeepsLink}
 use Rattle.lb_book.specs.Desks.{DeskState}
 use Rattle.exchange.specs.Requests.{Errand}
 use Rattle.exchange.specs.declared.ending.ExchangeEnd.{ExchangeEnd}
@@ -16,6 +17,14 @@ use Rattle.client_session.specs.declared.ending.SessionEnd.{SessionEnd}
 -- what stayed as it was has no fewer faults
 pub no_fewer_at : {T : Type 0} (faults : T → ℕ) (s n : T) → n ≡ s → faults s ≤ faults n
 no_fewer_at faults s n same = let as_many = ap faults same in omega arith
+
+-- a link of which nothing was asked
+pub keeps_still : {L B : Type 0} (told : Ghosts L B) (s : L) → KeepsLink told s s
+keeps_still told s = record { beside = refl; no_fewer = no_fewer_at told.faults s s refl }
+
+-- what was asked of it twice
+pub keeps_link_twice : {L B : Type 0} (told : Ghosts L B) (s m n : L) → KeepsLink told s m → KeepsLink told m n → KeepsLink told s n
+keeps_link_twice told s m n first second = record { beside = second.beside ∙ first.beside; no_fewer = omega (arith, first.no_fewer, second.no_fewer) }
 
 -- what fell at no step fell at none of two
 pub no_fewer_twice : (before mid now : ℕ) → before ≤ mid → mid ≤ now → before ≤ now

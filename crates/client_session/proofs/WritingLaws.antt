@@ -49,20 +49,6 @@ own_broken status kind s n io.Failed no_fewer delivered = (
 own_broken status kind s n io.NoMemory no_fewer delivered =
     record { sent = delivered.written.0; steady = delivered.written.1; incoming = delivered.incoming; received = delivered.received }
 
--- no write of an own answer takes a fault back
-pub own_no_fewer : (status : ℕ) (kind : OwnKind) (s n : Moment) (stop' : SessionStop) → WritesOwn status kind s n stop' → s.faults ≤ n.faults
-own_no_fewer status kind s n (stop.Closed why.ByClient) writes = absurd writes
-own_no_fewer status kind s n (stop.Closed why.Idle) writes = absurd writes
-own_no_fewer status kind s n (stop.Closed why.Last) writes = absurd writes
-own_no_fewer status kind s n (stop.Closed (why.Own code)) writes = let steady = writes.1.steady in omega arith
-own_no_fewer status kind s n (stop.Closed (why.Refused refusal)) writes = absurd writes
-own_no_fewer status kind s n (stop.Closed why.Cut) writes = absurd writes
-own_no_fewer status kind s n (stop.Closed why.Unread) writes = absurd writes
-own_no_fewer status kind s n stop.ClientFault writes = writes.1.no_fewer
-own_no_fewer status kind s n stop.Truncated writes = absurd writes
-own_no_fewer status kind s n (stop.Stray ticket returned_at) writes = absurd writes
-own_no_fewer status kind s n stop.NoMemory writes = let steady = writes.steady in omega arith
-
 -- ---- the answer to a refused request
 
 pub refusal_broken : (refusal : PageRefusal) (kind : OwnKind) (s n : Moment) (error : IoError) → s.faults ≤ n.faults
@@ -74,23 +60,7 @@ refusal_broken refusal kind s n io.Failed no_fewer delivered = (
 refusal_broken refusal kind s n io.NoMemory no_fewer delivered =
     record { sent = delivered.written.0; steady = delivered.written.1; incoming = delivered.incoming; received = delivered.received }
 
-pub refusal_no_fewer : (refusal : PageRefusal) (kind : OwnKind) (s n : Moment) (stop' : SessionStop) → WritesRefusal refusal kind s n stop' → s.faults ≤ n.faults
-refusal_no_fewer refusal kind s n (stop.Closed w) writes = let steady = writes.1.steady in omega arith
-refusal_no_fewer refusal kind s n stop.ClientFault writes = writes.1.no_fewer
-refusal_no_fewer refusal kind s n stop.Truncated writes = absurd writes
-refusal_no_fewer refusal kind s n (stop.Stray ticket returned_at) writes = absurd writes
-refusal_no_fewer refusal kind s n stop.NoMemory writes = let steady = writes.steady in omega arith
-
 -- ---- other bytes
-
--- no write of them takes a fault back either
-pub part_no_fewer : {T : Type 0} (bytes : List ℕ) (s n : Moment) (result : Result T SessionStop) → WritesPart bytes s n result → s.faults ≤ n.faults
-part_no_fewer bytes s n (Ok value) writes = let steady = writes.steady in omega arith
-part_no_fewer bytes s n (Err (stop.Closed w)) writes = absurd writes
-part_no_fewer bytes s n (Err stop.ClientFault) writes = writes.1.no_fewer
-part_no_fewer bytes s n (Err stop.Truncated) writes = absurd writes
-part_no_fewer bytes s n (Err (stop.Stray ticket returned_at)) writes = absurd writes
-part_no_fewer bytes s n (Err stop.NoMemory) writes = let steady = writes.steady in omega arith
 
 -- the bytes of the own answer that there is
 pub own_known : (found : Option Own) (kind : OwnKind) (bytes : List ℕ) → IsSome found → IfSome found (λ own. bytes ≡ own_bytes own kind)

@@ -1,5 +1,5 @@
 -- Desk, reach and client as the parts of a session keep them; strays and the client's faults as answers tell them.
-use Rattle.std.specs.Prelude.{◌≡◌, ℕ, ◌≤◌, Bool, List, Result, Ok, Err}
+use Rattle.std.specs.Prelude.{◌≡◌, ℕ, ◌+◌, ◌<◌, ◌≤◌, Bool, List, Option, Result, Ok, Err}
 use Rattle.jk_io.specs.declared.reaching.Beside.{Beside}
 use Rattle.jk_io.specs.declared.traits.streams.Meanings.{Ghosts}
 use Rattle.lb_model.specs.declared.served.Asked.{Asked}
@@ -9,12 +9,15 @@ use Rattle.client_session.specs.Concluding.{settled_by, whole_settled}
 use Rattle.client_session.specs.Ready.{IsReady}
 use Rattle.client_session.specs.Requests.{Visit}
 use Rattle.client_session.specs.Rows.{worker_row}
-use Rattle.client_session.specs.Surroundings.{AreSame}
-use Rattle.client_session.specs.Turns.{MeetsInAnswer, MeetsInTurn, RisesInAnswer, RisesInTurn}
+use Rattle.client_session.specs.Surroundings.{AreSame, standing_of}
+use Rattle.client_session.specs.Turns.{IsBusy, MeetsInAnswer, MeetsInTurn, RisesInAnswer, RisesInTurn}
+use Rattle.client_session.specs.Standings.{ClientStanding}
 use Rattle.client_session.specs.declared.ending.SessionStop.{SessionStop}
+use Rattle.client_session.specs.declared.requests.TheConstants.{MAX_REQUESTS}
 use Rattle.client_session.specs.declared.surroundings.Surroundings.{Surroundings}
 use Rattle.client_session.specs.declared.turn.Answered.{Answered}
 use Rattle.client_session.specs.declared.turn.SessionTurn.{SessionTurn}
+use Rattle.client_session.specs.declared.turn.SessionTurn.TheVariants as turns
 use Rattle.client_session.specs.declared.turn.Settled.{Settled}
 
 -- Desk and reach are as ready as before: no talk runs, and the desk holds the tickets that it held. No count of faults fell,
@@ -28,16 +31,21 @@ pub record KeepsAround {B K R C X : Type 0} (state : B → DeskState) (of_reach 
   pub client_faults : of_client.faults s.client.now ≤ of_client.faults n.client.now
   pub same : AreSame s n
 
--- An answer by what it tells of strays and of the client's faults, and by what is kept.
-pub record TellsAnswer {B K R C X : Type 0} (state : B → DeskState) (of_reach : Ghosts R Beside) (of_client : Ghosts C X) (v : Visit)
-    (answered : Answered) (s n : Surroundings B K R C) : Type 0 where
+-- An answer of this kind, what it tells of strays and of the client's faults, and what is kept.
+pub record TellsAnswer {B K R C X : Type 0} (state : B → DeskState) (answers : K → Option (List ℕ)) (of_reach : Ghosts R Beside) (of_client : Ghosts C X)
+    (v : Visit) (answered : Answered) (s n : Surroundings B K R C) (kind : ClientStanding → ClientStanding → Type 0) : Type 0 where
+  pub answer : kind (standing_of state answers of_reach of_client s) (standing_of state answers of_reach of_client n)
   pub met : MeetsInAnswer answered (state s.desk.now) (state n.desk.now)
   pub fault : RisesInAnswer answered (of_client.faults s.client.now) (of_client.faults n.client.now)
   pub kept : KeepsAround state of_reach of_client v s n
 
--- The same of a turn.
-pub record TellsTurn {B K R C X : Type 0} (state : B → DeskState) (of_reach : Ghosts R Beside) (of_client : Ghosts C X) (v : Visit)
-    (turn : SessionTurn) (s n : Surroundings B K R C) : Type 0 where
+-- The same of a turn, before which that number of requests came. It leaves no client that waits, and a next one follows only
+-- where it isn't the last of the most that a session has.
+pub record TellsTurn {B K R C X : Type 0} (state : B → DeskState) (answers : K → Option (List ℕ)) (of_reach : Ghosts R Beside) (of_client : Ghosts C X)
+    (v : Visit) (number : ℕ) (turn : SessionTurn) (s n : Surroundings B K R C) (kind : ClientStanding → ClientStanding → Type 0) : Type 0 where
+  pub turned : kind (standing_of state answers of_reach of_client s) (standing_of state answers of_reach of_client n)
+  pub more : turn ≡ turns.Next → number + 1 < MAX_REQUESTS
+  pub busy : IsBusy turn
   pub met : MeetsInTurn turn (state s.desk.now) (state n.desk.now)
   pub fault : RisesInTurn turn (of_client.faults s.client.now) (of_client.faults n.client.now)
   pub kept : KeepsAround state of_reach of_client v s n

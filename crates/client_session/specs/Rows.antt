@@ -1,5 +1,5 @@
 -- The row of a request that is under way.
-use Rattle.std.specs.Prelude.{ℕ, ◌≡◌, ◌≤◌, Bool, List, [], length, Some, None, vec_capacity}
+use Rattle.std.specs.Prelude.{ℕ, ◌≡◌, ◌≤◌, Bool, List, length, Some, None, vec_capacity}
 use Rattle.lb_model.specs.declared.served.Asked.{Asked}
 use Rattle.lb_model.specs.declared.served.Asked.TheVariants as asked
 use Rattle.lb_model.specs.declared.served.Served.{Served}
@@ -23,5 +23,4 @@ refusal_row_by asked' refusal head_only =
 -- the row of this request, with room for a name of that length
 pub record IsRowOf (head : Head) (longest : ℕ) (row : Row) : Type 0 where
   pub asked' : row.asked ≡ asked.Line head.method head.target head.old
-  pub unnamed : row.name.items ≡ []
   pub room : longest ≤ vec_capacity row.name

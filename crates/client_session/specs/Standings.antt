@@ -8,6 +8,7 @@ use Rattle.jk_io.specs.declared.traits.streams.Meanings.{Ghosts}
 use Rattle.http_front.specs.Request.{IsDecided}
 use Rattle.http_front.specs.Unread.{unread}
 use Rattle.http_front.specs.declared.body.BodyIn.{BodyIn}
+use Rattle.ajp_talk.specs.Moments.{KeepsLink}
 use Rattle.lb_book.specs.Desks.{DeskState}
 use Rattle.status_worker.specs.Desks.{DeskSide, desk_side}
 use Rattle.exchange.specs.Deliveries.{PutsShort}
@@ -28,6 +29,11 @@ pub record ClientStanding : Type 0 where
 -- the moment of a client, by all that its type tells
 abbrev pub client_at : {C X : Type 0} → Ghosts C X → C → Moment
 client_at told client = moment told.incoming told.received told.sent told.faults client
+
+-- A step of this kind that the client alone takes part in: what stands beside it stays, and its count of faults never falls.
+pub record IsClientStep {C X : Type 0} (told : Ghosts C X) (s n : C) (kind : Moment → Moment → Type 0) : Type 0 where
+  pub step : kind (client_at told s) (client_at told n)
+  pub kept : KeepsLink told s n
 
 -- The standing at a moment, by what the types tell: `standing B.state K.answers R.Meanings C.Meanings`.
 abbrev pub standing : {B K R C X : Type 0} → (B → DeskState) → (K → Option (List ℕ)) → Ghosts R Beside → Ghosts C X

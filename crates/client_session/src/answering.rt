@@ -1,5 +1,5 @@
 //! One request is answered: by its worker, or by the connector itself.
-ghost use Rattle.std.specs.Prelude.{◌≡◌, ◌≤◌, ◌<◌, true, [], Some, IfErr, IfOk, length, slice_get, vec_capacity};
+ghost use Rattle.std.specs.Prelude.{◌≡◌, ◌≤◌, ◌<◌, true, Some, IfErr, IfOk, MatchResult, length, slice_get, vec_capacity};
 ghost use Rattle.std.specs.List.{All};
 ghost use Rattle.lb_model.specs.declared.member.MemberConfig.{MemberConfig as AnyMember};
 ghost use Rattle.http_front.specs.declared.body.BodyIn.{BodyIn as AnyBody};
@@ -11,8 +11,8 @@ ghost use Rattle.client_session.specs.Concluding.{HasNamesWithin, HasRowRoom, Is
 ghost use Rattle.client_session.specs.Keeping.{IsShown, TellsAnswer};
 ghost use Rattle.client_session.specs.Ready.{IsReady};
 ghost use Rattle.client_session.specs.Requests.{IsNewBody, continue_for, mounted_at, visit_in, visit_of};
-ghost use Rattle.client_session.specs.Standings.{Puts, client_at};
-ghost use Rattle.client_session.specs.Surroundings.{IsRequestAnswered, IsAnsweredAt, standing_of};
+ghost use Rattle.client_session.specs.Standings.{IsClientStep, Puts};
+ghost use Rattle.client_session.specs.Surroundings.{IsRequestAnswered, IsAnsweredAt};
 ghost use Rattle.client_session.specs.Turns.{LeavesBodySound};
 ghost use Rattle.client_session.specs.Writing.{BreaksOff, WritesPart};
 
@@ -48,11 +48,19 @@ fn longest_of(members: &[MemberConfig]) -> usize
     longest
 }
 
+/// A worker of a configuration, at which a request is mounted.
+#[derive(Clone, Copy)]
+struct Mounted<'a> {
+    cfg: &'a Config,
+    worker: Named,
+    ghost stands: { is_worker cfg.now worker ≡ true },
+}
+
 /// The length of the longest name that a row of this worker may tell.
-fn longest_name(cfg: &Config, worker: Named) -> usize
-    requires { is_worker cfg.now worker ≡ true }
-    ensures { HasNamesWithin cfg.now worker result }
+fn longest_name(mounted: Mounted<'_>) -> usize
+    ensures { HasNamesWithin mounted.entry.cfg.now mounted.entry.worker result }
 {
+    let Mounted { cfg, worker } = mounted;
     match worker {
         Named::Status(place) => cfg.statuses.as_slice()[place as usize].name.len(),
         Named::Balancer(lb) => longest_of(cfg.lbs.as_slice()[lb as usize].book.members.as_slice()),
@@ -61,8 +69,7 @@ fn longest_name(cfg: &Config, worker: Named) -> usize
 
 /// Tells a client that waits for it that its body may come.
 fn send_continue<C: Sink>(head: &Head, client: &mut C) -> Result<(), SessionStop>
-    ensures sent { WritesPart (continue_for head.now) (client_at C.Meanings client.old) (client_at C.Meanings client.new) result }
-    ensures beside { C.beside client.new ≡ C.beside client.old }
+    ensures { IsClientStep C.Meanings client.old client.new (λ s n. WritesPart (continue_for head.now) s n result) }
 {
     if !awaits_continue(head) {
         return Ok(());
@@ -113,10 +120,9 @@ where
     requires worker { lb < length of.now.site.now.cfg.now.lbs }
     requires fresh { IsNewBody of.now.head.now.plan body.old }
     requires room { HasRowRoom of.now.site.now.cfg.now (named_is.Balancer lb) of.now.head.now row }
-    ensures answer { let at = standing_of B.state K.answers R.Meanings C.Meanings in
-        IsAnsweredAt of.now (at around.old) (at around.new) body.old body.new result }
+    ensures answer { TellsAnswer B.state K.answers R.Meanings C.Meanings (visit_of of.now.site.now) result.answered around.old around.new
+        (λ s n. IsAnsweredAt of.now s n body.old body.new result) }
     ensures going { LeavesBodySound result.answered body.new }
-    ensures told { TellsAnswer B.state R.Meanings C.Meanings (visit_of of.now.site.now) result.answered around.old around.new }
 {
     let request = request_at(of, lb);
     let mut means = Means {
@@ -137,7 +143,6 @@ where
 /// What a status worker's answer means to the session, and the row of its request.
 fn shown(answer: Result<u64, SessionStop>, status: &Status, head_only: bool, row: Row) -> Settled
     requires room { length status.now.name ≤ vec_capacity row.name }
-    requires unnamed { row.name.items ≡ [] }
     requires known { IfErr answer IsKnownStop }
     ensures { IsShown answer status.now.name head_only row.asked result }
 {
@@ -165,9 +170,8 @@ where
     requires mounted { mounted_at (visit_in of.now) of.now.head.now ≡ Some (named_is.Status place) }
     requires worker { place < length of.now.site.now.cfg.now.statuses }
     requires room { HasRowRoom of.now.site.now.cfg.now (named_is.Status place) of.now.head.now row }
-    ensures answer { (body : AnyBody) → let at = standing_of B.state K.answers R.Meanings C.Meanings in
-        IsAnsweredAt of.now (at around.old) (at around.new) body body result }
-    ensures told { TellsAnswer B.state R.Meanings C.Meanings (visit_of of.now.site.now) result.answered around.old around.new }
+    ensures { TellsAnswer B.state K.answers R.Meanings C.Meanings (visit_of of.now.site.now) result.answered around.old around.new
+        (λ s n. (body : AnyBody) → IsAnsweredAt of.now s n body body result) }
 {
     let status = &of.site.cfg.statuses.as_slice()[place as usize];
     let answer = serve_status(alloc, of, status, around);
@@ -175,28 +179,24 @@ where
 }
 
 /// A row of this request, with room for the longest name that it may tell.
-fn row_at(alloc: Global, cfg: &Config, worker: Named, head: &Head) -> Result<Row, NoMemory>
-    requires { is_worker cfg.now worker ≡ true }
-    ensures { IfOk result (HasRowRoom cfg.now worker head.now) }
+fn row_at(alloc: Global, mounted: Mounted<'_>, head: &Head) -> Result<Row, NoMemory>
+    ensures { IfOk result (HasRowRoom mounted.entry.cfg.now mounted.entry.worker head.now) }
 {
-    Row::of(alloc, head, longest_name(cfg, worker))
+    Row::of(alloc, head, longest_name(mounted))
 }
 
 /// Makes the row of a mounted request, and then tells a client that waits for it that its body may come.
 fn begin<C: Sink>(
     alloc: Global,
-    cfg: &Config,
-    worker: Named,
+    mounted: Mounted<'_>,
     head: &Head,
     client: &mut C,
 ) -> Result<Row, SessionStop>
-    requires { is_worker cfg.now worker ≡ true }
-    ensures room { IfOk result (HasRowRoom cfg.now worker head.now) }
-    ensures told { IfOk result (λ row. Puts (client_at C.Meanings client.old) (client_at C.Meanings client.new) (continue_for head.now)) }
-    ensures broken { IfErr result (BreaksOff (continue_for head.now) (client_at C.Meanings client.old) (client_at C.Meanings client.new)) }
-    ensures beside { C.beside client.new ≡ C.beside client.old }
+    ensures room { IfOk result (HasRowRoom mounted.entry.cfg.now mounted.entry.worker head.now) }
+    ensures told { IsClientStep C.Meanings client.old client.new
+        (λ s n. MatchResult result (λ row. Puts s n (continue_for head.now)) (BreaksOff (continue_for head.now) s n)) }
 {
-    let Ok(row) = row_at(alloc, cfg, worker, head) else {
+    let Ok(row) = row_at(alloc, mounted, head) else {
         return Err(SessionStop::NoMemory);
     };
     match send_continue(head, client) {
@@ -207,8 +207,7 @@ fn begin<C: Sink>(
 
 /// Answers a request that is mounted nowhere.
 fn not_found<C: Sink>(alloc: Global, of: &Inquiry, client: &mut C) -> Settled
-    ensures answer { IsNotFound (visit_in of.now) of.now.head.now (client_at C.Meanings client.old) (client_at C.Meanings client.new) result }
-    ensures beside { C.beside client.new ≡ C.beside client.old }
+    ensures { IsClientStep C.Meanings client.old client.new (λ s n. IsNotFound (visit_in of.now) of.now.head.now s n result) }
 {
     let Ok(row) = Row::of(alloc, of.head, 0) else {
         return stopped(SessionStop::NoMemory);
@@ -232,15 +231,18 @@ where
     B::Shown: Drop,
     requires ready { IsReady (visit_of of.now.site.now) (B.state around.old.desk.now) (R.beside around.old.reach.now) }
     requires fresh { IsNewBody of.now.head.now.plan body.old }
-    ensures answer { let at = standing_of B.state K.answers R.Meanings C.Meanings in
-        IsRequestAnswered of.now (at around.old) (at around.new) body.old body.new result }
+    ensures answer { TellsAnswer B.state K.answers R.Meanings C.Meanings (visit_of of.now.site.now) result.answered around.old around.new
+        (λ s n. IsRequestAnswered of.now s n body.old body.new result) }
     ensures going { LeavesBodySound result.answered body.new }
-    ensures told { TellsAnswer B.state R.Meanings C.Meanings (visit_of of.now.site.now) result.answered around.old around.new }
 {
     let Some(worker) = of.site.map.mount(of.head.clean.as_slice()) else {
         return not_found(alloc, of, around.client);
     };
-    let row = match begin(alloc, of.site.cfg, worker, of.head, around.client) {
+    let mounted = Mounted {
+        cfg: of.site.cfg,
+        worker,
+    };
+    let row = match begin(alloc, mounted, of.head, around.client) {
         Ok(row) => row,
         Err(stop) => return stopped(stop),
     };

@@ -1,5 +1,5 @@
 //! The end of an exchange, or a status worker's answer, as a turn of its session.
-ghost use Rattle.std.specs.Prelude.{◌≡◌, [], vec_capacity, IsSome};
+ghost use Rattle.std.specs.Prelude.{◌≡◌, vec_capacity, IsSome};
 ghost use Rattle.http_out.specs.Own.{own_of};
 ghost use Rattle.client_session.specs.Concluding.{HoldsName, IsConclusion, IsKnownStop, IsMemberRow, NamesWithin, cut_settled, own_settled, refused_settled, settled_by};
 
@@ -13,8 +13,7 @@ use status_worker::PageRefusal;
 
 /// The row of what a member gave.
 fn member_row(row: Row, members: &[MemberConfig], member: u32, told: Told) -> Served
-    requires named { HoldsName members.now member (vec_capacity row.name) }
-    requires unnamed { row.name.items ≡ [] }
+    requires { HoldsName members.now member (vec_capacity row.name) }
     ensures { IsMemberRow row.asked members.now member told result }
 {
     let name = members[member as usize].name.as_slice();
@@ -38,8 +37,7 @@ pub(crate) fn conclude(
     head_only: bool,
     row: Row,
 ) -> Settled
-    requires within { NamesWithin end members.now (vec_capacity row.name) }
-    requires unnamed { row.name.items ≡ [] }
+    requires { NamesWithin end members.now (vec_capacity row.name) }
     ensures { IsConclusion end members.now head_only row.asked result }
 {
     match end {

@@ -1,11 +1,9 @@
 //! The rows of answered requests, for a log.
-ghost use Rattle.std.specs.Prelude.{◌≡◌, ◌≤◌, [], length, vec_capacity, IfOk, IsSome};
+ghost use Rattle.std.specs.Prelude.{◌≡◌, [], length, IsSome};
 ghost use Rattle.http_out.specs.Own.{own_of};
-ghost use Rattle.lb_model.specs.declared.served.Asked.TheVariants as asked_is;
 ghost use Rattle.status_worker.specs.Pages.{sent_of};
 ghost use Rattle.status_worker.specs.Refusals.{refusal_body};
 ghost use Rattle.client_session.specs.Answers.{own_len as own_length};
-ghost use Rattle.client_session.specs.Rows.{IsRowOf, own_row_by, refusal_row_by, worker_row};
 
 use http_front::Head;
 use http_out::own_body;
@@ -35,15 +33,16 @@ fn refusal_len(refusal: PageRefusal, head_only: bool) -> u64
     refusal.body().len() as u64
 }
 
-/// A row under way: what was asked for, and memory for the worker's name.
+/// A row under way: what was asked for, and memory for the worker's name, of which nothing is written yet.
 #[derive(Drop)]
 pub struct Row {
     asked: Asked,
     name: Vec<u8>,
+    ghost unnamed: { name.items ≡ [] },
 }
 
 impl Row {
-    ghost use Rattle.std.specs.Prelude.{◌≡◌, ◌≤◌, [], length, vec_capacity, IfOk, IsSome};
+    ghost use Rattle.std.specs.Prelude.{◌≡◌, ◌≤◌, length, vec_capacity, IfOk, IsSome};
     ghost use Rattle.http_out.specs.Own.{own_of};
     ghost use Rattle.lb_model.specs.declared.served.Asked.TheVariants as asked_is;
     ghost use Rattle.client_session.specs.Rows.{IsRowOf, own_row_by, refusal_row_by, worker_row};
@@ -74,8 +73,7 @@ impl Row {
 
     /// The row of a reply or a page of this worker.
     pub(crate) fn of_worker(self, status: u16, body: u64, worker: &[u8]) -> Served
-        requires room { length worker.now ≤ vec_capacity self.name }
-        requires unnamed { self.name.items ≡ [] }
+        requires { length worker.now ≤ vec_capacity self.name }
         ensures { result ≡ worker_row self.asked status body worker.now }
     {
         let Row { asked, mut name } = self;

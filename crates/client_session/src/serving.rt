@@ -1,14 +1,13 @@
 //! `serve_session`: all requests of one client.
-ghost use Rattle.std.specs.Prelude.{◌≡◌, ◌≤◌, ◌<◌, ◌+◌, [], true, false};
+ghost use Rattle.std.specs.Prelude.{◌≡◌, ◌<◌, [], true, false};
 ghost use Rattle.http_front.specs.Takes.{body_at};
 ghost use Rattle.client_session.specs.Concluding.{rows_of};
 ghost use Rattle.client_session.specs.Finishing.{Finishes, RefusesHead, StopsWithoutHead, TurnsAfter, stop_after};
 ghost use Rattle.client_session.specs.Keeping.{TellsTurn};
 ghost use Rattle.client_session.specs.Ready.{IsReady};
 ghost use Rattle.client_session.specs.Requests.{refused_kind as refused_kind_of, visit_of};
-ghost use Rattle.client_session.specs.Standings.{client_at};
-ghost use Rattle.client_session.specs.Surroundings.{PutIn, TurnsFrom, TurnsNow, standing_of};
-ghost use Rattle.client_session.specs.Turns.{IsBusy};
+ghost use Rattle.client_session.specs.Standings.{IsClientStep};
+ghost use Rattle.client_session.specs.Surroundings.{PutIn, TurnsFrom, TurnsNow};
 ghost use Rattle.client_session.specs.Whole.{HoldsOfEach, IsWholeSession};
 
 use crate::answering::answer;
@@ -45,9 +44,7 @@ fn stop_for(fault: BodyFault) -> SessionStop
 
 /// Reads the rest of a body, after a whole reply or page.
 fn finish_body<C: Link>(body: &mut BodyIn, inbox: &mut Inbox, client: &mut C) -> SessionTurn
-    ensures finished { let see = client_at C.Meanings in
-        Finishes (body_at body.old inbox.old (see client.old)) (body_at body.new inbox.new (see client.new)) result }
-    ensures beside { C.beside client.new ≡ C.beside client.old }
+    ensures { IsClientStep C.Meanings client.old client.new (λ s n. Finishes (body_at body.old inbox.old s) (body_at body.new inbox.new n) result) }
 {
     match body.skip_rest(inbox, client) {
         Ok(()) => SessionTurn::Next,
@@ -63,11 +60,9 @@ fn turn_after<C: Link>(
     inbox: &mut Inbox,
     client: &mut C,
 ) -> SessionTurn
-    ensures turned { let see = client_at C.Meanings in
-        TurnsAfter answered last (body_at body.old inbox.old (see client.old)) (body_at body.new inbox.new (see client.new)) result }
+    ensures turned { IsClientStep C.Meanings client.old client.new
+        (λ s n. TurnsAfter answered last (body_at body.old inbox.old s) (body_at body.new inbox.new n) result) }
     ensures more { result ≡ SessionTurn.Next → last ≡ false }
-    ensures beside { C.beside client.new ≡ C.beside client.old }
-    ensures no_fewer { C.faults client.old ≤ C.faults client.new }
 {
     match answered {
         Answered::Not(stop) => SessionTurn::EndsAt(stop),
@@ -100,11 +95,8 @@ where
     B::Shown: Drop,
     requires ready { IsReady (visit_of site.now) (B.state around.old.desk.now) (R.beside around.old.reach.now) }
     requires number { number < MAX_REQUESTS }
-    ensures turn { let at = standing_of B.state K.answers R.Meanings C.Meanings in
-        TurnsFrom (visit_of site.now) number head.now (at around.old) (at around.new) (PutIn W.gained rows.old rows.new) result }
-    ensures more { result ≡ SessionTurn.Next → number + 1 < MAX_REQUESTS }
-    ensures busy { IsBusy result }
-    ensures told { TellsTurn B.state R.Meanings C.Meanings (visit_of site.now) result around.old around.new }
+    ensures { TellsTurn B.state K.answers R.Meanings C.Meanings (visit_of site.now) number result around.old around.new
+        (λ s n. TurnsFrom (visit_of site.now) number head.now s n (PutIn W.gained rows.old rows.new) result) }
 {
     let date = moment_of(site.dated, around.clock);
     let mut body = BodyIn::new(head.plan, MAX_BODY_BYTES);
@@ -141,9 +133,7 @@ fn refuse<C: Sink, W: RowSink>(
     client: &mut C,
     rows: &mut W,
 ) -> SessionStop
-    ensures refused { let see = client_at C.Meanings in
-        RefusesHead date form (see client.old) (see client.new) (PutIn W.gained rows.old rows.new) result }
-    ensures beside { C.beside client.new ≡ C.beside client.old }
+    ensures { IsClientStep C.Meanings client.old client.new (λ s n. RefusesHead date form s n (PutIn W.gained rows.old rows.new) result) }
 {
     let Ok(()) = rows.room() else {
         return SessionStop::NoMemory;
@@ -164,9 +154,7 @@ fn stop_without_head<C: Sink, W: RowSink>(
     client: &mut C,
     rows: &mut W,
 ) -> SessionStop
-    ensures stops { let see = client_at C.Meanings in
-        StopsWithoutHead date error (see client.old) (see client.new) (PutIn W.gained rows.old rows.new) result }
-    ensures beside { C.beside client.new ≡ C.beside client.old }
+    ensures { IsClientStep C.Meanings client.old client.new (λ s n. StopsWithoutHead date error s n (PutIn W.gained rows.old rows.new) result) }
 {
     match error {
         HeadError::Refused { status: _, form } => refuse(alloc, date, form, client, rows),
@@ -189,11 +177,8 @@ where
     B::Shown: Drop,
     requires ready { IsReady (visit_of site.now) (B.state around.old.desk.now) (R.beside around.old.reach.now) }
     requires number { number < MAX_REQUESTS }
-    ensures turn { let at = standing_of B.state K.answers R.Meanings C.Meanings in
-        TurnsNow (visit_of site.now) number (at around.old) (at around.new) (PutIn W.gained rows.old rows.new) result }
-    ensures more { result ≡ SessionTurn.Next → number + 1 < MAX_REQUESTS }
-    ensures busy { IsBusy result }
-    ensures told { TellsTurn B.state R.Meanings C.Meanings (visit_of site.now) result around.old around.new }
+    ensures turn { TellsTurn B.state K.answers R.Meanings C.Meanings (visit_of site.now) number result around.old around.new
+        (λ s n. TurnsNow (visit_of site.now) number s n (PutIn W.gained rows.old rows.new) result) }
 
     // Before a byte of it is read, the client is told that its next request is waited for.
     ensures awaits { (after : C) × C.heard around.old.client.now Awaited.Client after }
@@ -212,8 +197,7 @@ where
 /// Whether the next request would be waited for, with nothing of it there.
 fn is_idle<C: Link>(inbox: &Inbox, client: &mut C) -> bool
     ensures idle { result ≡ true → (inbox.now ≡ []) × (C.may_wait ≡ true) }
-    ensures same { client_at C.Meanings client.new ≡ client_at C.Meanings client.old }
-    ensures beside { C.beside client.new ≡ C.beside client.old }
+    ensures same { IsClientStep C.Meanings client.old client.new (λ s n. n ≡ s) }
 {
     inbox.is_empty() && client.waits()
 }

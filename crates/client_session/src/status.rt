@@ -1,11 +1,11 @@
 //! A request of a status worker: its commands are done, and its page written.
-ghost use Rattle.std.specs.Prelude.{◌≡◌, ◌≤◌, ◌<◌, IfSome, length};
+ghost use Rattle.std.specs.Prelude.{◌≡◌, ◌<◌, IfSome, length};
 ghost use Rattle.lb_book.specs.Desks.{MeetsNone};
 ghost use Rattle.exchange.specs.Requests.{sizes_of};
 ghost use Rattle.client_session.specs.Keeping.{KeepsAround};
 ghost use Rattle.client_session.specs.Ready.{IsReady};
 ghost use Rattle.client_session.specs.Requests.{visit_of};
-ghost use Rattle.client_session.specs.Standings.{client_at};
+ghost use Rattle.client_session.specs.Standings.{IsClientStep};
 ghost use Rattle.client_session.specs.Surroundings.{SendsPage, Shows, standing_of};
 
 use crate::ending::SessionStop;
@@ -62,10 +62,8 @@ where
     B::Shown: Drop,
     requires within { IfSome only (λ lb. lb < length of.now.site.now.cfg.now.lbs) }
     requires sizes { (B.state desk.old).sizes ≡ sizes_of of.now.site.now.cfg.now.lbs }
-    ensures sent { SendsPage of.now status.now only (B.state desk.old) (client_at C.Meanings client.old) (client_at C.Meanings client.new) result }
+    ensures sent { IsClientStep C.Meanings client.old client.new (λ s n. SendsPage of.now status.now only (B.state desk.old) s n result) }
     ensures seen { B.state desk.new ≡ B.state desk.old }
-    ensures beside { C.beside client.new ≡ C.beside client.old }
-    ensures no_fewer { C.faults client.old ≤ C.faults client.new }
 {
     let asked = PageRequest {
         cfg: of.site.cfg,

@@ -1,7 +1,7 @@
 //! Writing to the client.
 ghost use Rattle.std.specs.Prelude.{◌≡◌, IsSome};
 ghost use Rattle.http_out.specs.Own.{own_of};
-ghost use Rattle.client_session.specs.Standings.{client_at};
+ghost use Rattle.client_session.specs.Standings.{IsClientStep};
 ghost use Rattle.client_session.specs.Writing.{WritesOwn, WritesPart, WritesRefusal, stop_by};
 
 use crate::ending::{SessionStop, Why};
@@ -22,8 +22,7 @@ fn stop_of(error: IoError) -> SessionStop
 
 /// Writes bytes whole and sends them on their way, or says why the session ends.
 pub(crate) fn send<C: Sink>(bytes: &[u8], client: &mut C) -> Result<(), SessionStop>
-    ensures sent { WritesPart bytes.now (client_at C.Meanings client.old) (client_at C.Meanings client.new) result }
-    ensures beside { C.beside client.new ≡ C.beside client.old }
+    ensures { IsClientStep C.Meanings client.old client.new (λ s n. WritesPart bytes.now s n result) }
 {
     match deliver(client, bytes) {
         Ok(()) => Ok(()),
@@ -34,8 +33,7 @@ pub(crate) fn send<C: Sink>(bytes: &[u8], client: &mut C) -> Result<(), SessionS
 /// Writes the answer with this status, after which the session ends.
 pub(crate) fn write_own<C: Sink>(status: u16, kind: OwnKind, client: &mut C) -> SessionStop
     requires { IsSome (own_of status) }
-    ensures own { WritesOwn status kind (client_at C.Meanings client.old) (client_at C.Meanings client.new) result }
-    ensures beside { C.beside client.new ≡ C.beside client.old }
+    ensures { IsClientStep C.Meanings client.old client.new (λ s n. WritesOwn status kind s n result) }
 {
     match deliver(client, own_answer(status, kind).as_slice()) {
         Ok(()) => SessionStop::Closed(Why::Own(status)),
@@ -49,8 +47,7 @@ pub(crate) fn write_refusal<C: Sink>(
     kind: OwnKind,
     client: &mut C,
 ) -> SessionStop
-    ensures refusal { WritesRefusal refusal kind (client_at C.Meanings client.old) (client_at C.Meanings client.new) result }
-    ensures beside { C.beside client.new ≡ C.beside client.old }
+    ensures { IsClientStep C.Meanings client.old client.new (λ s n. WritesRefusal refusal kind s n result) }
 {
     match deliver(client, refusal_answer(refusal, kind).as_slice()) {
         Ok(()) => SessionStop::Closed(Why::Refused(refusal)),

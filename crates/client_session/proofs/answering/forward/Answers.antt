@@ -92,9 +92,9 @@ returns g c =
     c.requires.room.1.asked' c.conclude.ensures in
     let kept = rw q.session at (after_exchange _ _ _ _ x.kept.kept x.kept.held) in
     record {
-      answer = forwards v head last s n c.args.body.now c.body-1.given.0 c.args.lb balancer end c.conclude.result c.requires.mounted q.balancer forwarded concluded;
       going = goes_on v head last s n c.args.body.now c.body-1.given.0 c.args.lb balancer end c.conclude.result forwarded concluded;
-      told = record {
+      answer = record {
+        answer = forwards v head last s n c.args.body.now c.body-1.given.0 c.args.lb balancer end c.conclude.result c.requires.mounted q.balancer forwarded concluded;
         met = meets v head last s n c.args.body.now c.body-1.given.0 c.args.lb balancer end c.conclude.result forwarded concluded;
         fault = rises v head last s n c.args.body.now c.body-1.given.0 c.args.lb balancer end c.conclude.result forwarded concluded;
         kept = record {

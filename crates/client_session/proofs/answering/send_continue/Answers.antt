@@ -3,5 +3,8 @@ use Rattle.std.proofs.Common.{sym, ◌∙◌}
 use Rattle.client_session.proofs.WritingLaws.{sent_continue}
 use Rattle.client_session.proofs.answering.send_continue.Goals as goal
 
-pub returns-clause-sent : goal.returns-clause-sent
-returns-clause-sent g c = sent_continue c.args.head.now _ _ c.send.result (sym c.awaits_continue.ensures ∙ c.if-not-awaits_continue.false) c.send.ensures.sent
+pub returns : goal.returns
+returns g c = record {
+  step = sent_continue c.args.head.now _ _ c.send.result (sym c.awaits_continue.ensures ∙ c.if-not-awaits_continue.false) c.send.ensures.step;
+  kept = c.send.ensures.kept;
+}

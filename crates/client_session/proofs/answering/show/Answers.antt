@@ -12,24 +12,19 @@ shown-requires-clause-room g c =
     room_for_status c.args.of.now.site.now.cfg.now c.args.of.now.head.now c.args.row c.args.place c.index-as_slice-place.result c.requires.room c.requires.worker
     (rw c.as_slice.ensures at c.index-as_slice-place.is)
 
-pub shown-requires-clause-unnamed : goal.shown-requires-clause-unnamed
-shown-requires-clause-unnamed g c = c.requires.room.1.unnamed
-
 pub shown-requires-clause-known : goal.shown-requires-clause-known
 shown-requires-clause-known g c =
     shown_known (visit_in c.args.of.now) c.args.of.now.head.now c.args.of.now.last _ _ c.index-as_slice-place.result c.serve_status-answer.result
     c.serve_status-answer.ensures.answer
 
-pub returns-clause-answer : goal.returns-clause-answer
-returns-clause-answer g c = λ body.
-    shown_answers (visit_in c.args.of.now) c.args.of.now.head.now c.args.of.now.last _ _ body c.index-as_slice-place.result c.serve_status-answer.result _ c.shown.result
-    (at_status _ _ _ c.index-as_slice-place.result c.requires.mounted c.requires.worker (rw c.as_slice.ensures at c.index-as_slice-place.is))
-    c.serve_status-answer.ensures.answer c.requires.room.1.asked' (rw c.is_head.ensures at c.shown.ensures)
-
-pub returns-clause-told : goal.returns-clause-told
-returns-clause-told g c =
+pub returns : goal.returns
+returns g c =
     let is = rw c.is_head.ensures at c.shown.ensures in
     record {
+      answer = λ body.
+          shown_answers (visit_in c.args.of.now) c.args.of.now.head.now c.args.of.now.last _ _ body c.index-as_slice-place.result c.serve_status-answer.result _ c.shown.result
+          (at_status _ _ _ c.index-as_slice-place.result c.requires.mounted c.requires.worker (rw c.as_slice.ensures at c.index-as_slice-place.is))
+          c.serve_status-answer.ensures.answer c.requires.room.1.asked' is;
       met = shown_meets (visit_in c.args.of.now) c.args.of.now.head.now c.args.of.now.last _ _ c.index-as_slice-place.result c.serve_status-answer.result _ c.shown.result _ _
           c.serve_status-answer.ensures.answer is c.serve_status-answer.ensures.met;
       fault = shown_rises (visit_in c.args.of.now) c.args.of.now.head.now c.args.of.now.last _ _ c.index-as_slice-place.result c.serve_status-answer.result _ c.shown.result

@@ -3,8 +3,10 @@ use Rattle.client_session.specs.Standings.{client_at}
 use Rattle.client_session.proofs.WritingLaws.{refused_closed}
 use Rattle.client_session.proofs.serving.refuse.Goals as goal
 
-pub returns-in-Closed-clause-refused : goal.returns-in-Closed-clause-refused
-returns-in-Closed-clause-refused g c =
-    refused_closed c.args.date c.args.form (client_at g.C.Meanings c.args.client.now) (client_at g.C.Meanings c.write_own-stop.new.client)
-    (λ gained. g.W.RowSink.gained c.args.rows.now gained c.put.new.self) c.write_own-stop.result _ c.in-Closed.is (rw (c.status-status.ensures, c.refused_kind.ensures) at c.write_own-stop.ensures.own)
-    (rw (c.own.ensures, c.refused.ensures, c.status-status.ensures) at (g.met.W.RowSink.gains_on _ _ _ _ _ c.in-Ok.ensures.same c.put.ensures))
+pub returns-in-Closed : goal.returns-in-Closed
+returns-in-Closed g c = record {
+  step = refused_closed c.args.date c.args.form (client_at g.C.Meanings c.args.client.now) (client_at g.C.Meanings c.write_own-stop.new.client)
+      (λ gained. g.W.RowSink.gained c.args.rows.now gained c.put.new.self) c.write_own-stop.result _ c.in-Closed.is (rw (c.status-status.ensures, c.refused_kind.ensures) at c.write_own-stop.ensures.step)
+      (rw (c.own.ensures, c.refused.ensures, c.status-status.ensures) at (g.met.W.RowSink.gains_on _ _ _ _ _ c.in-Ok.ensures.same c.put.ensures));
+  kept = c.write_own-stop.ensures.kept;
+}

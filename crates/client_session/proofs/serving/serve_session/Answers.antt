@@ -7,7 +7,7 @@ use Rattle.client_session.specs.declared.ending.Why.TheVariants as why
 use Rattle.client_session.proofs.DeskLaws.{met_at_end}
 use Rattle.client_session.proofs.KeepingLaws.{keeps_by, keeps_twice}
 use Rattle.client_session.proofs.SessionLaws.{begins, ended, goes_on, idles, risen_at_end, same_client, still_under_way}
-use Rattle.client_session.proofs.SurroundingsLaws.{no_fewer_at}
+use Rattle.client_session.proofs.SurroundingsLaws.{keeps_still}
 use Rattle.client_session.proofs.TurnLaws.{ended_busy}
 use Rattle.client_session.proofs.WayLaws.{holds_of_each, whole_by}
 use Rattle.client_session.proofs.serving.serve_session.Goals as goal
@@ -18,7 +18,7 @@ loop-number-init g c = record {
   few = omega arith;
   met = none_met _;
   calm = refl;
-  kept = keeps_by _ _ _ _ _ _ c.requires.ready (untouched _ _) refl refl refl (no_fewer_at g.C.Meanings.faults _ _ refl) (refl, refl, refl, refl, refl);
+  kept = keeps_by _ _ _ _ _ _ c.requires.ready (untouched _ _) refl refl (keeps_still g.C.Meanings _) (refl, refl, refl, refl, refl);
 }
 
 pub serve_one-requires-clause-ready : goal.serve_one-requires-clause-ready
@@ -29,52 +29,52 @@ serve_one-requires-clause-number g c = c.loop-number.invariant.few
 
 pub loop-number-preserved : goal.loop-number-preserved
 loop-number-preserved g c =
-    let way = goes_on _ _ _ _ _ _ _ _ (λ xs ys first second. g.met.W.RowSink.gains_on _ _ _ _ _ first second) c.loop-number.invariant.way c.in-Next.ensures.turn in
-    let faults = ap (λ (m : Moment). m.faults) c.is_idle.ensures.same in
+    let way = goes_on _ _ _ _ _ _ _ _ (λ xs ys first second. g.met.W.RowSink.gains_on _ _ _ _ _ first second) c.loop-number.invariant.way c.in-Next.ensures.turn.turned in
+    let faults = ap (λ (m : Moment). m.faults) c.is_idle.ensures.same.step in
     record {
-      way = still_under_way _ _ _ _ _ _ c.is_idle.ensures.same way;
-      few = c.in-Next.ensures.more refl;
-      met = none_twice _ _ _ c.loop-number.invariant.met c.in-Next.ensures.told.met;
-      calm = faults ∙ c.in-Next.ensures.told.fault ∙ c.loop-number.invariant.calm;
+      way = still_under_way _ _ _ _ _ _ c.is_idle.ensures.same.step way;
+      few = c.in-Next.ensures.turn.more refl;
+      met = none_twice _ _ _ c.loop-number.invariant.met c.in-Next.ensures.turn.met;
+      calm = faults ∙ c.in-Next.ensures.turn.fault ∙ c.loop-number.invariant.calm;
       kept = keeps_twice _ _ _ _ _ _ _ c.loop-number.invariant.kept
-          (keeps_twice _ _ _ _ _ _ _ c.in-Next.ensures.told.kept
-          (keeps_by _ _ _ _ _ _ c.in-Next.ensures.told.kept.ready (untouched _ _) refl refl c.is_idle.ensures.beside (omega (arith, faults)) (refl, refl, refl, refl, refl)));
+          (keeps_twice _ _ _ _ _ _ _ c.in-Next.ensures.turn.kept
+          (keeps_by _ _ _ _ _ _ c.in-Next.ensures.turn.kept.ready (untouched _ _) refl refl c.is_idle.ensures.same.kept (refl, refl, refl, refl, refl)));
     }
 
 pub returns-in-EndsAfter : goal.returns-in-EndsAfter
 returns-in-EndsAfter g c = record {
   session = whole_by _ _ _ _ _ _ _ _ _
-      (ended _ _ _ _ _ _ _ _ c.in-EndsAfter.stop _ _ (λ xs ys first second. g.met.W.RowSink.gains_on _ _ _ _ _ first second) c.loop-number.invariant.way c.after.ensures c.in-EndsAfter.ensures.turn)
-      (met_at_end c.in-EndsAfter.stop _ _ _ _ _ c.after.ensures c.loop-number.invariant.met c.in-EndsAfter.ensures.told.met)
-      (risen_at_end c.in-EndsAfter.stop _ _ _ _ _ c.after.ensures c.loop-number.invariant.calm c.in-EndsAfter.ensures.told.fault)
-      (keeps_twice _ _ _ _ _ _ _ c.loop-number.invariant.kept c.in-EndsAfter.ensures.told.kept);
+      (ended _ _ _ _ _ _ _ _ c.in-EndsAfter.stop _ _ (λ xs ys first second. g.met.W.RowSink.gains_on _ _ _ _ _ first second) c.loop-number.invariant.way c.after.ensures c.in-EndsAfter.ensures.turn.turned)
+      (met_at_end c.in-EndsAfter.stop _ _ _ _ _ c.after.ensures c.loop-number.invariant.met c.in-EndsAfter.ensures.turn.met)
+      (risen_at_end c.in-EndsAfter.stop _ _ _ _ _ c.after.ensures c.loop-number.invariant.calm c.in-EndsAfter.ensures.turn.fault)
+      (keeps_twice _ _ _ _ _ _ _ c.loop-number.invariant.kept c.in-EndsAfter.ensures.turn.kept);
   each = holds_of_each _ _;
-  idle_only = ended_busy c.in-EndsAfter.stop _ _ _ c.after.ensures c.in-EndsAfter.ensures.busy;
+  idle_only = ended_busy c.in-EndsAfter.stop _ _ _ c.after.ensures c.in-EndsAfter.ensures.turn.busy;
 }
 
 pub returns-in-EndsAt : goal.returns-in-EndsAt
 returns-in-EndsAt g c = record {
   session = whole_by _ _ _ _ _ _ _ _ _
-      (ended _ _ _ _ _ _ _ _ c.in-EndsAt.stop _ _ (λ xs ys first second. g.met.W.RowSink.gains_on _ _ _ _ _ first second) c.loop-number.invariant.way c.after-in-EndsAt.ensures c.in-EndsAt.ensures.turn)
-      (met_at_end c.in-EndsAt.stop _ _ _ _ _ c.after-in-EndsAt.ensures c.loop-number.invariant.met c.in-EndsAt.ensures.told.met)
-      (risen_at_end c.in-EndsAt.stop _ _ _ _ _ c.after-in-EndsAt.ensures c.loop-number.invariant.calm c.in-EndsAt.ensures.told.fault)
-      (keeps_twice _ _ _ _ _ _ _ c.loop-number.invariant.kept c.in-EndsAt.ensures.told.kept);
+      (ended _ _ _ _ _ _ _ _ c.in-EndsAt.stop _ _ (λ xs ys first second. g.met.W.RowSink.gains_on _ _ _ _ _ first second) c.loop-number.invariant.way c.after-in-EndsAt.ensures c.in-EndsAt.ensures.turn.turned)
+      (met_at_end c.in-EndsAt.stop _ _ _ _ _ c.after-in-EndsAt.ensures c.loop-number.invariant.met c.in-EndsAt.ensures.turn.met)
+      (risen_at_end c.in-EndsAt.stop _ _ _ _ _ c.after-in-EndsAt.ensures c.loop-number.invariant.calm c.in-EndsAt.ensures.turn.fault)
+      (keeps_twice _ _ _ _ _ _ _ c.loop-number.invariant.kept c.in-EndsAt.ensures.turn.kept);
   each = holds_of_each _ _;
-  idle_only = ended_busy c.in-EndsAt.stop _ _ _ c.after-in-EndsAt.ensures c.in-EndsAt.ensures.busy;
+  idle_only = ended_busy c.in-EndsAt.stop _ _ _ c.after-in-EndsAt.ensures c.in-EndsAt.ensures.turn.busy;
 }
 
 pub returns-then-is_idle : goal.returns-then-is_idle
 returns-then-is_idle g c =
-    let faults = ap (λ (m : Moment). m.faults) c.is_idle.ensures.same in
-    let way = goes_on _ _ _ _ _ _ _ _ (λ xs ys first second. g.met.W.RowSink.gains_on _ _ _ _ _ first second) c.loop-number.invariant.way c.in-Next.ensures.turn in
+    let faults = ap (λ (m : Moment). m.faults) c.is_idle.ensures.same.step in
+    let way = goes_on _ _ _ _ _ _ _ _ (λ xs ys first second. g.met.W.RowSink.gains_on _ _ _ _ _ first second) c.loop-number.invariant.way c.in-Next.ensures.turn.turned in
     record {
       session = whole_by _ _ _ _ _ _ _ _ _
-          (idles _ _ _ _ _ _ _ way (omega arith) (c.is_idle.ensures.idle c.if-is_idle.true).0 (same_client _ _ c.is_idle.ensures.same) c.after-then-is_idle.ensures)
-          (met_at_end (stop.Closed why.Idle) _ _ _ _ _ c.after-then-is_idle.ensures c.loop-number.invariant.met c.in-Next.ensures.told.met)
-          (risen_at_end (stop.Closed why.Idle) _ _ _ _ _ c.after-then-is_idle.ensures c.loop-number.invariant.calm (faults ∙ c.in-Next.ensures.told.fault))
+          (idles _ _ _ _ _ _ _ way (omega arith) (c.is_idle.ensures.idle c.if-is_idle.true).0 (same_client _ _ c.is_idle.ensures.same.step) c.after-then-is_idle.ensures)
+          (met_at_end (stop.Closed why.Idle) _ _ _ _ _ c.after-then-is_idle.ensures c.loop-number.invariant.met c.in-Next.ensures.turn.met)
+          (risen_at_end (stop.Closed why.Idle) _ _ _ _ _ c.after-then-is_idle.ensures c.loop-number.invariant.calm (faults ∙ c.in-Next.ensures.turn.fault))
           (keeps_twice _ _ _ _ _ _ _ c.loop-number.invariant.kept
-          (keeps_twice _ _ _ _ _ _ _ c.in-Next.ensures.told.kept
-          (keeps_by _ _ _ _ _ _ c.in-Next.ensures.told.kept.ready (untouched _ _) refl refl c.is_idle.ensures.beside (omega (arith, faults)) (refl, refl, refl, refl, refl))));
+          (keeps_twice _ _ _ _ _ _ _ c.in-Next.ensures.turn.kept
+          (keeps_by _ _ _ _ _ _ c.in-Next.ensures.turn.kept.ready (untouched _ _) refl refl c.is_idle.ensures.same.kept (refl, refl, refl, refl, refl))));
       each = holds_of_each _ _;
       idle_only = λ _. (c.is_idle.ensures.idle c.if-is_idle.true).1;
     }
