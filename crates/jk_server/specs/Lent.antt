@@ -1,15 +1,21 @@
 -- One session over what it is lent: a desk, a clock, a reach, a client and rows, as they were and as they are.
-use Rattle.std.specs.Prelude.{◌≡◌, ◌≤◌, ℕ, []}
+use Rattle.std.specs.Prelude.{◌≡◌, ◌≤◌, ℕ, Bool, true, List, []}
 use Rattle.jk_io.specs.declared.reaching.Beside.{Beside}
 use Rattle.jk_io.specs.declared.traits.streams.Meanings.{Ghosts}
 use Rattle.jk_io.specs.declared.traits.surroundings.Clock.{Ghosts as ClockGhosts}
 use Rattle.lb_model.specs.declared.row_sink.RowSink.{Ghosts as RowGhosts}
 use Rattle.lb_book.specs.Desks.{DeskState}
+use Rattle.status_worker.specs.Desks.{KeepsTickets}
+use Rattle.client_session.specs.Ends.{MeetsBy, RisesBy}
 use Rattle.client_session.specs.Parts.{HasParts}
+use Rattle.client_session.specs.Ready.{IsReady}
 use Rattle.client_session.specs.Requests.{visit_of}
 use Rattle.client_session.specs.Sessions.{Serves}
-use Rattle.client_session.specs.Standings.{standing}
+use Rattle.client_session.specs.Standings.{ClientStanding, standing}
+use Rattle.client_session.specs.Whole.{HoldsOfEach}
 use Rattle.client_session.specs.declared.ending.SessionEnd.{SessionEnd}
+use Rattle.client_session.specs.declared.ending.SessionStop.TheVariants as stop
+use Rattle.client_session.specs.declared.ending.Why.TheVariants as why
 use Rattle.lb_shared.specs.Loans.{state_in}
 use Rattle.lb_shared.specs.SharedDesks.{SharedState}
 use Rattle.lb_shared.specs.declared.lent_desk.DeskLoan.{DeskLoan}
@@ -20,17 +26,35 @@ use Rattle.jk_server.specs.declared.client.Visit.{Visit}
 abbrev pub loaned : {B : Type 0} → (B → DeskState) → DeskLoan B → DeskState
 loaned state loan = state_in state loan.desk
 
--- The client was served by one session, and the rows of its requests were put.
-abbrev pub ServesOver : {B K R C Y X : Type 0} → (B → DeskState) → ClockGhosts K → Ghosts R Beside → Ghosts C X → RowGhosts Y → Visit → B → K → R → C → Y → B → K → R → C → Y → SessionEnd → Type 0
-ServesOver state of_clock of_reach of_client of_rows visit desk clock reach client rows desk' clock' reach' client' rows' end =
-    Serves (visit_of visit.site) (standing state of_clock.answers of_reach of_client desk clock reach client)
-    (standing state of_clock.answers of_reach of_client desk' clock' reach' client') (λ gained. of_rows.gained rows gained rows') end
+-- What a session is lent, at a moment.
+pub record LentSides (B K R C Y : Type 0) : Type 0 where
+  pub desk : B
+  pub clock : K
+  pub reach : R
+  pub client : C
+  pub rows : Y
 
--- The client has the parts of its requests, joined.
-abbrev pub HasPartsOver : {B K R C X : Type 0} → (B → DeskState) → ClockGhosts K → Ghosts R Beside → Ghosts C X → Visit → B → K → R → C → B → K → R → C → SessionEnd → Type 0
-HasPartsOver state of_clock of_reach of_client visit desk clock reach client desk' clock' reach' client' end =
-    HasParts (visit_of visit.site) (standing state of_clock.answers of_reach of_client desk clock reach client [])
-    (standing state of_clock.answers of_reach of_client desk' clock' reach' client' []) end
+abbrev pub lent : {B K R C Y : Type 0} → B → K → R → C → Y → LentSides B K R C Y
+lent desk clock reach client rows = record { desk = desk; clock = clock; reach = reach; client = client; rows = rows }
+
+-- how a session stands by what it is lent, with these bytes that were read and not used
+abbrev pub standing_by : {B K R C Y X : Type 0} → (B → DeskState) → ClockGhosts K → Ghosts R Beside → Ghosts C X → LentSides B K R C Y → List ℕ → ClientStanding
+standing_by state of_clock of_reach of_client s inbox = standing state of_clock.answers of_reach of_client s.desk s.clock s.reach s.client inbox
+
+-- The client was served by one session, as each session serves: the rows of its requests were put, and it has their parts, joined.
+-- A client's fault ended it only where its faults rose, a stray only where the desk's strays rose. The desk keeps its tickets, no
+-- talk runs, and a client is left only where its reads may wait.
+pub record ServesLent {B K R C Y X : Type 0} (state : B → DeskState) (of_clock : ClockGhosts K) (of_reach : Ghosts R Beside) (of_client : Ghosts C X) (of_rows : RowGhosts Y)
+    (may_wait : Bool) (visit : Visit) (s n : LentSides B K R C Y) (end : SessionEnd) : Type 0 where
+  pub ran : Serves (visit_of visit.site) (standing_by state of_clock of_reach of_client s) (standing_by state of_clock of_reach of_client n)
+      (λ gained. of_rows.gained s.rows gained n.rows) end
+  pub parts : HasParts (visit_of visit.site) (standing_by state of_clock of_reach of_client s []) (standing_by state of_clock of_reach of_client n []) end
+  pub each : HoldsOfEach (visit_of visit.site) end
+  pub fault : RisesBy end.stop (of_client.faults s.client) (of_client.faults n.client)
+  pub met : MeetsBy end.stop (state s.desk) (state n.desk)
+  pub kept : KeepsTickets (visit_of visit.site).session (state s.desk) (state n.desk)
+  pub ready : IsReady (visit_of visit.site) (state n.desk) (of_reach.beside n.reach)
+  pub idle_only : end.stop ≡ stop.Closed why.Idle → may_wait ≡ true
 
 -- So it is of the desk at each earlier moment whose counts these are, since which neither fell.
 abbrev pub SinceCounts : {S : Type 0} → (faults : S → ℕ) → ShelfCounts → (now : SharedState S) → (SharedState S → Type 0) → Type 0

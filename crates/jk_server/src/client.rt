@@ -1,21 +1,17 @@
 //! One client: its session, and what a worker makes of the session's end.
-ghost use Rattle.std.specs.Prelude.{◌≡◌, ◌<◌, [], ◌∷◌, true, false, None, Some, IsOk, IsSome};
+ghost use Rattle.std.specs.Prelude.{◌≡◌, ◌<◌, [], ◌∷◌, false, Some, IsOk, IsSome};
 ghost use Rattle.jk_io.specs.Told.{appended};
-ghost use Rattle.client_session.specs.Ends.{MeetsBy, RisesBy};
 ghost use Rattle.client_session.specs.Ready.{IsReady};
 ghost use Rattle.client_session.specs.Requests.{visit_of};
-ghost use Rattle.client_session.specs.Whole.{HoldsOfEach};
-ghost use Rattle.client_session.specs.declared.ending.Why.TheVariants as why;
-ghost use Rattle.status_worker.specs.Desks.{KeepsTickets};
 ghost use Rattle.lb_shared.specs.Histories.{HasGone};
 ghost use Rattle.lb_shared.specs.Loans.{name_in, seat_in, shelf_in, state_in};
 ghost use Rattle.lb_shared.specs.Notes.{StrayNote};
 ghost use Rattle.lb_shared.specs.Shelves.{HasShelved};
-ghost use Rattle.jk_server.specs.Lent.{HasPartsOver, ServesOver, SinceCounts, loaned};
+ghost use Rattle.jk_server.specs.Lent.{ServesLent, SinceCounts, lent, loaned};
 ghost use Rattle.jk_server.specs.Served.{DeskSettles, IsStray, SettlesBy};
 ghost use Rattle.jk_server.specs.PartTells.{part_tells};
 ghost use Rattle.jk_server.specs.Turns.{LeavesClient, RestsPart};
-ghost use Rattle.jk_server.specs.Worker.{forgot_desk, IsFit, took};
+ghost use Rattle.jk_server.specs.Worker.{MayBegin, forgot_desk, took};
 
 use crate::part::{Post, WorkerEnd};
 use crate::told_log::ToldLog;
@@ -159,16 +155,8 @@ where
     B::Mark: Drop,
     B::Shown: Drop,
     requires ready { IsReady (visit_of of.site) (B.state desk.old) (R.beside reach.old) }
-    ensures ran { ServesOver B.state K.Clock R.Meanings C.Meanings Y.RowSink of.entry
-        desk.old clock.old reach.old client.old rows.old desk.new clock.new reach.new client.new rows.new result }
-    ensures parts { HasPartsOver B.state K.Clock R.Meanings C.Meanings of.entry
-        desk.old clock.old reach.old client.old desk.new clock.new reach.new client.new result }
-    ensures each { HoldsOfEach (visit_of of.entry.site) result }
-    ensures fault { RisesBy result.stop (C.faults client.old) (C.faults client.new) }
-    ensures met { MeetsBy result.stop (B.state desk.old) (B.state desk.new) }
-    ensures kept { KeepsTickets (visit_of of.entry.site).session (B.state desk.old) (B.state desk.new) }
-    ensures ready { IsReady (visit_of of.entry.site) (B.state desk.new) (R.beside reach.new) }
-    ensures idle_only { result.stop ≡ SessionStop.Closed why.Idle → C.may_wait ≡ true }
+    ensures { ServesLent B.state K.Clock R.Meanings C.Meanings Y.RowSink C.may_wait of.entry
+        (lent desk.old clock.old reach.old client.old rows.old) (lent desk.new clock.new reach.new client.new rows.new) result }
 {
     let Visit { alloc, site, inbox } = of;
     let Ok(mut bytes) = inbox_of(alloc, inbox.take()) else {
@@ -210,16 +198,8 @@ where
     requires ready { IsReady (visit_of of.site) (state_in B.state loan.old.desk) (R.beside reach.old) }
     ensures there { IsSome loan.new.desk }
     ensures same { name_in loan.new.desk ≡ name_in loan.old.desk }
-    ensures ran { ServesOver (loaned B.state) K.Clock R.Meanings C.Meanings Y.RowSink of.entry
-        loan.old clock.old reach.old client.old rows.old loan.new clock.new reach.new client.new rows.new result }
-    ensures parts { HasPartsOver (loaned B.state) K.Clock R.Meanings C.Meanings of.entry
-        loan.old clock.old reach.old client.old loan.new clock.new reach.new client.new result }
-    ensures each { HoldsOfEach (visit_of of.entry.site) result }
-    ensures fault { RisesBy result.stop (C.faults client.old) (C.faults client.new) }
-    ensures met { MeetsBy result.stop (state_in B.state loan.old.desk) (state_in B.state loan.new.desk) }
-    ensures kept { KeepsTickets (visit_of of.entry.site).session (state_in B.state loan.old.desk) (state_in B.state loan.new.desk) }
-    ensures ready { IsReady (visit_of of.entry.site) (state_in B.state loan.new.desk) (R.beside reach.new) }
-    ensures idle_only { result.stop ≡ SessionStop.Closed why.Idle → C.may_wait ≡ true }
+    ensures session { ServesLent (loaned B.state) K.Clock R.Meanings C.Meanings Y.RowSink C.may_wait of.entry
+        (lent loan.old clock.old reach.old client.old rows.old) (lent loan.new clock.new reach.new client.new rows.new) result }
     ensures gone { HasGone M.seat M.receipts (seat_in B.seat loan.new.desk) (state_in B.state loan.new.desk).receipts }
     ensures shelf { HasShelved M.shelf (shelf_in B.shelf loan.new.desk) }
 {
@@ -248,16 +228,8 @@ where
     B::Mark: Drop,
     B::Shown: Drop,
     requires ready { IsReady (visit_of of.site) (B.state desk.old) (R.beside reach.old) }
-    ensures ran { ServesOver B.state K.Clock R.Meanings C.Meanings Y.RowSink of.entry
-        desk.old clock.old reach.old client.old rows.old desk.new clock.new reach.new client.new rows.new result }
-    ensures parts { HasPartsOver B.state K.Clock R.Meanings C.Meanings of.entry
-        desk.old clock.old reach.old client.old desk.new clock.new reach.new client.new result }
-    ensures each { HoldsOfEach (visit_of of.entry.site) result }
-    ensures fault { RisesBy result.stop (C.faults client.old) (C.faults client.new) }
-    ensures met { MeetsBy result.stop (B.state desk.old) (B.state desk.new) }
-    ensures kept { KeepsTickets (visit_of of.entry.site).session (B.state desk.old) (B.state desk.new) }
-    ensures ready { IsReady (visit_of of.entry.site) (B.state desk.new) (R.beside reach.new) }
-    ensures idle_only { result.stop ≡ SessionStop.Closed why.Idle → C.may_wait ≡ true }
+    ensures session { ServesLent B.state K.Clock R.Meanings C.Meanings Y.RowSink C.may_wait of.entry
+        (lent desk.old clock.old reach.old client.old rows.old) (lent desk.new clock.new reach.new client.new rows.new) result }
     ensures gone { HasGone (B.seat desk.old) (B.state desk.old).receipts (B.seat desk.new) (B.state desk.new).receipts }
     ensures shelf { HasShelved (B.shelf desk.old) (B.shelf desk.new) }
 {
@@ -285,8 +257,7 @@ pub(crate) fn serve_client<
     peer: &'x Peer,
     inbox: &mut Option<Inbox>,
 ) -> Option<WorkerEnd<L>>
-    requires fit { IsFit post.cfg.now post.map.now part.old.desk.desk (R.beside part.old.reach) }
-    requires logged { Y.broken_by part.old.log ≡ None }
+    requires ready { MayBegin post.cfg.now post.map.now part.old.desk.desk (R.beside part.old.reach) (Y.broken_by part.old.log) }
     requires room { 0 < D.room part.old.door }
     ensures { LeavesClient (part_tells D.Door D.L.Meanings K.Clock R.Meanings R.looks S.Shelf ⟦<Y as ToldLog>⟧.told D.L.may_wait)
         post.entry part.old part.new link peer.now result }

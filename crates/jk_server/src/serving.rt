@@ -1,10 +1,10 @@
 //! The whole work of one worker.
-ghost use Rattle.std.specs.Prelude.{◌≡◌, None};
+ghost use Rattle.std.specs.Prelude.{◌≡◌};
 ghost use Rattle.client_session.specs.Requests.{visit};
 ghost use Rattle.jk_server.specs.Served.{ServesPart};
 ghost use Rattle.jk_server.specs.PartTells.{part_tells};
 ghost use Rattle.jk_server.specs.Turns.{TurnsPart};
-ghost use Rattle.jk_server.specs.Worker.{IsFit};
+ghost use Rattle.jk_server.specs.Worker.{IsFit, MayBegin};
 
 use crate::client::{go_on, serve_client};
 use crate::part::{Post, WorkerEnd};
@@ -28,8 +28,7 @@ pub fn serve_part<L: SiteName, D: Door, R: Reach, K: Clock, S: Shelf, W: Wait, Y
     number: u32,
     part: &mut Part<'_, '_, L, D, R, K, S, W, Y>,
 ) -> WorkerEnd<L>
-    requires fit { IsFit cfg.now map.now part.old.desk.desk (R.beside part.old.reach) }
-    requires logged { Y.broken_by part.old.log ≡ None }
+    requires ready { MayBegin cfg.now map.now part.old.desk.desk (R.beside part.old.reach) (Y.broken_by part.old.log) }
     ensures served { ServesPart (part_tells D.Door D.L.Meanings K.Clock R.Meanings R.looks S.Shelf ⟦<Y as ToldLog>⟧.told D.L.may_wait)
         (visit cfg.now map.now number) part.old part.new result }
     ensures fit { IsFit cfg.now map.now part.new.desk.desk (R.beside part.new.reach) }
@@ -56,8 +55,7 @@ fn serve_turn<L: SiteName, D: Door, R: Reach, K: Clock, S: Shelf, W: Wait, Y: Wo
     sessions: u64,
     inbox: &mut Option<Inbox>,
 ) -> Option<WorkerEnd<L>>
-    requires fit { IsFit post.cfg.now post.map.now part.old.desk.desk (R.beside part.old.reach) }
-    requires logged { Y.broken_by part.old.log ≡ None }
+    requires ready { MayBegin post.cfg.now post.map.now part.old.desk.desk (R.beside part.old.reach) (Y.broken_by part.old.log) }
     ensures { TurnsPart (part_tells D.Door D.L.Meanings K.Clock R.Meanings R.looks S.Shelf ⟦<Y as ToldLog>⟧.told D.L.may_wait)
         post.entry part.old part.new sessions result }
 {

@@ -1,16 +1,15 @@
 //! The workers of a connector's run: one for each gear, and what they leave.
-ghost use Rattle.std.specs.Prelude.{◌≡◌, ◌≤◌, [], true, vec_capacity, vec_len, IfErr, IfOk};
-ghost use Rattle.std.specs.List.{All};
+ghost use Rattle.std.specs.Prelude.{◌≡◌, ◌≤◌, [], vec_capacity, vec_len, IfErr, IfOk};
 ghost use Rattle.conn_pool.specs.Idle.{counts};
 ghost use Rattle.exchange.specs.Requests.{sizes_of};
 ghost use Rattle.lb_shared.specs.Locks.{lock_of};
-ghost use Rattle.site_mounts.specs.Sites.{stands_in};
 ghost use Rattle.jk_server.specs.Rooms.{HasRoomForEnds};
 ghost use Rattle.jk_server.specs.ServedGears.{IsRunOf};
 ghost use Rattle.jk_server.specs.RunTells.{run_tells};
+ghost use Rattle.jk_server.specs.Started.{AreReady};
 
 use crate::part::Ran;
-use crate::workers::{MAX_WORKERS, empty_slots, fill_slots, room_for, serve_slots};
+use crate::workers::{empty_slots, fill_slots, room_for, serve_slots};
 use conn_pool::Tape;
 use gear_parts::{Common, Gear};
 use jk_io::{Clock, Dial, Door, NoMemory};
@@ -88,10 +87,7 @@ pub(crate) fn work<
 ) -> Result<Ran<L, Leaving<L, ()>, Gear<D, G, T, K, S, O>>, Vec<Gear<D, G, T, K, S, O>>>
 where
     D::L: Send,
-    requires few { vec_len gears ≤ MAX_WORKERS }
-    requires stands { stands_in plan.cfg.now plan.map.now ≡ true }
-    requires idle { All (λ g. T.is_idle g.tape) gears.items }
-    requires parts { share.parts ≡ vec_len gears }
+    requires ready { AreReady T.is_idle share.parts plan.cfg.now plan.map.now (vec_len gears) gears.items }
     requires amount { share.amount ≡ 0 }
     requires desk_sizes { L.sizes ≡ sizes_of plan.cfg.now.lbs }
     requires pool_sizes { counts common.now.pools.now ≡ sizes_of plan.cfg.now.lbs }

@@ -1,5 +1,5 @@
 -- A desk that is lent for a session, from now on.
-use Rattle.std.proofs.Common.{◌≡◌, ◌∙◌, Some, sym, ap}
+use Rattle.std.proofs.Common.{◌≡◌, ◌∙◌, Some, rules, sym, ap}
 use Rattle.lb_shared.specs.Loans.{name_in, seat_in, shelf_in, state_in}
 use Rattle.jk_server.proofs.ToldLaws.{lent_now, lent_shelf}
 use Rattle.jk_server.proofs.client.serve_lent.Goals as goal
@@ -12,3 +12,15 @@ invariant_of-lent g c =
       gone = lent_now _ _ _ _ (sym (ap (λ d. seat_in g.B.SeatedDesk.seat d) is) ∙ c.requires.seat) (sym (ap (λ d. (state_in g.B.Desk.state d).receipts) is) ∙ c.requires.receipts);
       shelved = lent_shelf _ _ (sym (ap (λ d. shelf_in g.B.SeatedDesk.shelf d) is) ∙ c.requires.shelf);
     }
+
+pub returns-clause-session : goal.returns-clause-session
+returns-clause-session g c = record {
+  ran = search rules;
+  parts = search rules;
+  each = search rules;
+  fault = search rules;
+  met = search rules;
+  kept = search rules;
+  ready = search rules;
+  idle_only = search rules;
+}

@@ -3,16 +3,13 @@ use Rattle.jk_server.proofs.RunLaws.{turns_again, turns_first}
 use Rattle.jk_server.proofs.serving.serve_part.Goals as goal
 
 pub clients-init : goal.clients-init
-clients-init g c = turns_first _ _ _ _ _ c.requires.fit c.requires.logged
+clients-init g c = turns_first _ _ _ _ _ c.requires.ready.fit c.requires.ready.logged
 
 pub clients-preserved : goal.clients-preserved
 clients-preserved g c = turns_again _ _ _ _ _ _ _ c.in-None-serve_turn.ensures c.saturating_add-sessions.ensures c.clients.invariant
 
-pub serve_turn-requires-clause-fit : goal.serve_turn-requires-clause-fit
-serve_turn-requires-clause-fit g c = c.clients.invariant.fit
-
-pub serve_turn-requires-clause-logged : goal.serve_turn-requires-clause-logged
-serve_turn-requires-clause-logged g c = c.clients.invariant.way.logged
+pub serve_turn-requires : goal.serve_turn-requires
+serve_turn-requires g c = record { ready = record { fit = c.clients.invariant.fit; logged = c.clients.invariant.way.logged } }
 
 pub returns-in-Some-serve_turn : goal.returns-in-Some-serve_turn
 returns-in-Some-serve_turn g c = record {

@@ -21,29 +21,26 @@ returns g c =
 pub returns-in-Closed : goal.returns-in-Closed
 returns-in-Closed g c = record {
   turned = λ first s way. closes {L = g.row.L.Denot} _ _ _ _ _ _ _ _ _ way c.in-Closed.ensures.arrives (c.in-Closed.ensures.steady refl);
-  fit = c.requires.fit;
+  fit = c.requires.ready.fit;
   parts = refl;
 }
 
 pub returns-in-Fault : goal.returns-in-Fault
 returns-in-Fault g c = record {
   turned = λ first s way. fails {L = g.row.L.Denot} _ _ _ _ _ _ _ _ _ way c.in-Fault.ensures.arrives;
-  fit = c.requires.fit;
+  fit = c.requires.ready.fit;
   parts = refl;
 }
 
 pub returns-in-NoMemory : goal.returns-in-NoMemory
 returns-in-NoMemory g c = record {
   turned = λ first s way. lacks {L = g.row.L.Denot} _ _ _ _ _ _ _ _ _ way c.in-NoMemory.ensures.arrives (c.in-NoMemory.ensures.wanted refl);
-  fit = c.requires.fit;
+  fit = c.requires.ready.fit;
   parts = refl;
 }
 
-pub serve_client-requires-clause-fit : goal.serve_client-requires-clause-fit
-serve_client-requires-clause-fit g c = c.requires.fit
-
-pub serve_client-requires-clause-logged : goal.serve_client-requires-clause-logged
-serve_client-requires-clause-logged g c = c.requires.logged
+pub serve_client-requires-clause-ready : goal.serve_client-requires-clause-ready
+serve_client-requires-clause-ready g c = c.requires.ready
 
 pub serve_client-requires-clause-room : goal.serve_client-requires-clause-room
 serve_client-requires-clause-room g c = room_left _ _ c.in-Client.ensures.room

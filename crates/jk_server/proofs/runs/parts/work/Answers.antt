@@ -33,17 +33,17 @@ pub fill_slots-requires-clause-room : goal.fill_slots-requires-clause-room
 fill_slots-requires-clause-room g c = λ κs within. few_so _ _ _ (sym c.len.ensures) c.in-Ok.ensures.slots.1
 
 pub fill_slots-requires-clause-parts : goal.fill_slots-requires-clause-parts
-fill_slots-requires-clause-parts g c = λ κs within. c.requires.parts
+fill_slots-requires-clause-parts g c = λ κs within. c.requires.ready.each
 
 pub fill_slots-requires-clause-amount : goal.fill_slots-requires-clause-amount
 fill_slots-requires-clause-amount g c = λ κs within. c.requires.amount
 
 pub fill_slots-requires-clause-idle : goal.fill_slots-requires-clause-idle
-fill_slots-requires-clause-idle g c = λ κs within. c.requires.idle
+fill_slots-requires-clause-idle g c = λ κs within. c.requires.ready.idle
 
 pub serve_slots-requires-clause-few : goal.serve_slots-requires-clause-few
 serve_slots-requires-clause-few g c = λ κs within.
-    few_so _ _ _ (c.fill_slots.new.slots.ok.0 ∙ as_long _ _ _ _ c.fill_slots.ensures.starts ∙ sym c.args.gears.ok.0) c.requires.few
+    few_so _ _ _ (c.fill_slots.new.slots.ok.0 ∙ as_long _ _ _ _ c.fill_slots.ensures.starts ∙ sym c.args.gears.ok.0) c.requires.ready.few
 
 pub serve_slots-requires-clause-ready : goal.serve_slots-requires-clause-ready
 serve_slots-requires-clause-ready g c = λ κs within.
@@ -53,7 +53,7 @@ serve_slots-requires-clause-ready g c = λ κs within.
     slot_start c.fill_slots.new.slots.items c.args.gears.items c.fill_slots.ensures.starts
     (λ k d lt. record {
       fit = record {
-        stands = c.requires.stands;
+        stands = c.requires.ready.stands;
         caller = refl;
         desk_sizes = c.requires.desk_sizes;
         reach_sizes = c.requires.pool_sizes;

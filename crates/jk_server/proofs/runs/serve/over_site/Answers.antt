@@ -14,17 +14,14 @@ invariant_of-common g c = record {
   ends = ap (λ ps. counts ps) c.in-Ok.ensures ∙ table_counts c.args.plan.cfg.now.lbs ∙ table_ends c.args.plan.cfg.now.lbs;
 }
 
-pub work-requires-clause-few : goal.work-requires-clause-few
-work-requires-clause-few g c = λ κs within. c.requires.ready.few
-
-pub work-requires-clause-stands : goal.work-requires-clause-stands
-work-requires-clause-stands g c = λ κs within. c.requires.ready.stands
-
-pub work-requires-clause-idle : goal.work-requires-clause-idle
-work-requires-clause-idle g c = λ κs within. c.requires.ready.idle
-
-pub work-requires-clause-parts : goal.work-requires-clause-parts
-work-requires-clause-parts g c = λ κs within. c.in-Ok-shared_site.ensures.0 ∙ c.requires.ready.each
+pub work-requires-clause-ready : goal.work-requires-clause-ready
+work-requires-clause-ready g c = λ κs within. record {
+  each = c.in-Ok-shared_site.ensures.0 ∙ c.requires.ready.each;
+  some = c.requires.ready.some;
+  few = c.requires.ready.few;
+  stands = c.requires.ready.stands;
+  idle = c.requires.ready.idle;
+}
 
 pub work-requires-clause-amount : goal.work-requires-clause-amount
 work-requires-clause-amount g c = λ κs within. c.in-Ok-shared_site.ensures.1
