@@ -23,12 +23,13 @@ status_of end.OutputFault = 5
 status_of end.NoMemory = 6
 status_of (end.Lacked why) = status_of_error why
 
--- How the writing of what a drill handed out ends: it was written, or a front of it.
+-- How the writing of what a drill handed out ends: it was written, or a front of it. For want of memory only where no write
+-- failed.
 abbrev pub WritesTold : (sent sent_now : Option (List ℕ)) → (faults faults_now : ℕ) → (told : List ℕ) → DrillEnd → Type 0
 WritesTold sent sent_now faults faults_now told ended =
     ((sent_now ≡ appended sent told) × (ended ≡ end.Written))
     ⊎ (PutsFront sent sent_now told × (ended ≡ end.OutputFault) × Rose faults faults_now)
-    ⊎ (PutsFront sent sent_now told × (ended ≡ end.NoMemory))
+    ⊎ (PutsFront sent sent_now told × (ended ≡ end.NoMemory) × (faults_now ≡ faults))
 
 -- The text that a drill handed out was written, or a front of it.
 pub record TellsDrill (seed threads requests : ℕ) (text passes : Bool) (sent sent_now : Option (List ℕ)) (faults faults_now : ℕ) (ended : DrillEnd) : Type 0 where
@@ -37,21 +38,17 @@ pub record TellsDrill (seed threads requests : ℕ) (text passes : Bool) (sent s
   pub drill : IsDrill seed threads requests text passes told book
   pub written : WritesTold sent sent_now faults faults_now told ended
 
--- It handed out nothing, for this reason, and nothing was written.
-pub record LacksDrill (seed threads requests : ℕ) (sent sent_now : Option (List ℕ)) (ended : DrillEnd) : Type 0 where
+-- It handed out nothing, for this reason, nothing was written, and no write failed.
+pub record LacksDrill (seed threads requests : ℕ) (sent sent_now : Option (List ℕ)) (faults faults_now : ℕ) (ended : DrillEnd) : Type 0 where
   pub error : DrillError
   pub why : IsDrillError seed threads requests error
   pub ends : ended ≡ end.Lacked error
   pub written : sent_now ≡ sent
-
--- Memory was wanted before it began.
-pub record WantsDrill (sent sent_now : Option (List ℕ)) (ended : DrillEnd) : Type 0 where
-  pub ends : ended ≡ end.NoMemory
-  pub written : sent_now ≡ sent
+  pub calm : faults_now ≡ faults
 
 -- A drill, by what it does with the output.
 pub data RunsDrill (seed threads requests : ℕ) (text passes : Bool) (sent sent_now : Option (List ℕ)) (faults faults_now : ℕ) (ended : DrillEnd) : Type 0 where
   Told : TellsDrill seed threads requests text passes sent sent_now faults faults_now ended
       → RunsDrill seed threads requests text passes sent sent_now faults faults_now ended
-  Lacked : LacksDrill seed threads requests sent sent_now ended → RunsDrill seed threads requests text passes sent sent_now faults faults_now ended
-  Wanted : WantsDrill sent sent_now ended → RunsDrill seed threads requests text passes sent sent_now faults faults_now ended
+  Lacked : LacksDrill seed threads requests sent sent_now faults faults_now ended
+      → RunsDrill seed threads requests text passes sent sent_now faults faults_now ended

@@ -48,7 +48,7 @@ pub enum DrillEnd {
     Written,
     /// A write failed.
     OutputFault,
-    /// Memory was wanted before it began, or in a write.
+    /// Memory was wanted in a write.
     NoMemory,
     /// It handed out nothing.
     Lacked(DrillError),

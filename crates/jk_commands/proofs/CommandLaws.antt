@@ -1,7 +1,9 @@
 -- How a command that asks for workers or threads ends.
-use Rattle.std.proofs.Common.{ℕ, ◌≡◌, ◌≢◌, ◌⊎◌, true, false, ◌||◌, List, [], ◌∷◌, Result, Ok, inl, inr, refl, sym, ◌∙◌, arith}
+use Rattle.std.proofs.Common.{ℕ, ◌≡◌, ◌≢◌, ◌↔◌, ◌⊎◌, true, false, ◌||◌, Bool, List, [], ◌∷◌, Option, Result, Ok, inl, inr, refl, sym, ◌∙◌, arith}
 use Rattle.ajp_container.specs.declared.worker_ends.ContainerWorker.{ContainerWorker}
 use Rattle.ajp_container.specs.declared.worker_ends.ContainerWorker.TheVariants as container
+use Rattle.drill.specs.Written.{Lacked, RunsDrill, Told, WritesTold}
+use Rattle.drill.specs.declared.writing.DrillEnd.{DrillEnd}
 use Rattle.jk_cli.specs.declared.order.Order.{Order}
 use Rattle.jk_cli.specs.declared.order.Order.TheVariants as order
 use Rattle.jk_cli.specs.declared.order.WordsError.{WordsError}
@@ -16,12 +18,17 @@ use Rattle.jk_server.specs.declared.part.WorkerEnd.{WorkerEnd}
 use Rattle.jk_server.specs.declared.part.WorkerEnd.TheVariants as worker
 use Rattle.jk_server.specs.declared.runs.ends.Closing.{Closing}
 use Rattle.jk_server.specs.declared.runs.ends.Closing.TheVariants as closing
+use Rattle.plain_commands.specs.Endings.{number_of, EndsSo, PlainSide}
 use Rattle.plain_commands.specs.Plain.{is_plain, readings}
+use Rattle.plain_commands.specs.declared.plain.PlainEnd.{PlainEnd}
+use Rattle.plain_commands.specs.declared.plain.PlainEnd.TheVariants as plain
+use Rattle.site_reports.specs.declared.found.SiteFound.{SiteFound}
 use Rattle.request_log.specs.Formats.{refusal_line}
 use Rattle.request_log.specs.declared.format.Part.{Part as FormatPart}
 use Rattle.site_reports.specs.Readings.{CommandOutside, has_file}
-use Rattle.jk_commands.specs.Ends.{jkd_end}
+use Rattle.jk_commands.specs.Ends.{jkd_end, of_drill, status_of}
 use Rattle.jk_commands.specs.Orders.{is_served, IsNoCommand, reads_files}
+use Rattle.jk_commands.specs.Plain.{EndsPlain}
 use Rattle.jk_commands.specs.declared.ends.EndOf.{EndOf}
 use Rattle.jk_commands.specs.declared.ends.EndOf.TheVariants as end
 
@@ -124,6 +131,42 @@ serve_lose told outside workers map text threads wanted s n by ended serves turn
       | inr more ↦ elim more [ inl a ↦ absurd (omega (arith, a)) | inr b ↦ b.1 ]
     ]
 
+-- one that ends for want of memory met no failed write
+line_wants : {G L : Type 0} (s n : CommandSide G) (line : List ℕ) (by : CommandEnd L) → WritesLine s.sent n.sent s.output_faults n.output_faults line by
+    → status_of (jkd_end by) ≡ 6 → n.output_faults ≡ s.output_faults
+line_wants s n line by (inl (sent, ended)) six = let is : 3 ≡ 6 = rw ended at six in absurd (omega (arith, is))
+line_wants s n line by (inr (inl (front, ended, rose))) six = let is : 5 ≡ 6 = rw ended at six in absurd (omega (arith, is))
+line_wants s n line by (inr (inr (front, ended, calm))) six = calm
+
+files_want : {W G C S O X Z L : Type 0} (told : Tells W G C S O X Z) (outside : CommandOutside) (workers map : List ℕ) (format : List FormatPart) (threads : ℕ) (wanted : GearWants) (s n : CommandSide G) (by : CommandEnd L)
+    → ServesFiles told outside workers map format threads wanted s n by → status_of (jkd_end by) ≡ 6 → n.output_faults ≡ s.output_faults
+files_want told outside workers map format threads wanted s n by (Unread w) six = w.output.1
+files_want told outside workers map format threads wanted s n by (Refused w) six = line_wants s n w.line by w.written six
+files_want told outside workers map format threads wanted s n by (Served w) six = w.output.1
+
+serve_want : {W G C S O X Z L : Type 0} (told : Tells W G C S O X Z) (outside : CommandOutside) (workers map text : List ℕ) (threads : ℕ) (wanted : GearWants) (s n : CommandSide G) (by : CommandEnd L)
+    → DoesServe told outside workers map text threads wanted s n by → status_of (jkd_end by) ≡ 6 → n.output_faults ≡ s.output_faults
+serve_want told outside workers map text threads wanted s n by (NoFormat w) six = w.output.1
+serve_want told outside workers map text threads wanted s n by (Unformatted w) six = line_wants s n (refusal_line w.at) by w.written six
+serve_want told outside workers map text threads wanted s n by (Formatted format spelled serves) six = files_want told outside workers map format threads wanted s n by serves six
+
+pub serve_wants : {W G C S O X Z L : Type 0} (told : Tells W G C S O X Z) (outside : CommandOutside) (workers map text : List ℕ) (threads : ℕ) (wanted : GearWants) (s n : CommandSide G) (by : CommandEnd L) (ended : EndOf L)
+    → DoesServe told outside workers map text threads wanted s n by → ended ≡ jkd_end by → status_of ended ≡ 6 → n.output_faults ≡ s.output_faults
+serve_wants told outside workers map text threads wanted s n by ended serves turned six = serve_want told outside workers map text threads wanted s n by serves (rw turned at six)
+
+told_wants : {L : Type 0} (sent now : Option (List ℕ)) (faults faults_now : ℕ) (told : List ℕ) (by : DrillEnd) → WritesTold sent now faults faults_now told by
+    → status_of {L = L} (of_drill by) ≡ 6 → faults_now ≡ faults
+told_wants {L} sent now faults faults_now told by (inl (written, ended)) six = let is : 0 ≡ 6 = rw ended at six in absurd (omega (arith, is))
+told_wants {L} sent now faults faults_now told by (inr (inl (front, ended, rose))) six = let is : 5 ≡ 6 = rw ended at six in absurd (omega (arith, is))
+told_wants {L} sent now faults faults_now told by (inr (inr (front, ended, calm))) six = calm
+
+-- nor did such a drill
+pub drill_wants : {L : Type 0} (seed threads requests : ℕ) (text passes : Bool) (sent now : Option (List ℕ)) (faults faults_now : ℕ) (by : DrillEnd) (ended : EndOf L)
+    → RunsDrill seed threads requests text passes sent now faults faults_now by → ended ≡ of_drill by → status_of ended ≡ 6 → faults_now ≡ faults
+drill_wants seed threads requests text passes sent now faults faults_now by ended (Told w) turned six =
+    told_wants sent now faults faults_now w.told by w.written (rw turned at six)
+drill_wants seed threads requests text passes sent now faults faults_now by ended (Lacked w) turned six = w.calm
+
 contain_status : {W G C S O X Z L : Type 0} (told : Tells W G C S O X Z) (route : List ℕ) (threads : ℕ) (wanted : GearWants) (s n : WorldSide G) (by : CommandEnd L) (ended : EndOf L) (k : ℕ)
     → ContainsLinks told route threads wanted s n by → ended ≡ jkd_end by → ended ≡ end.Status k → IsOfRun k
 contain_status told route threads wanted s n by ended k links turned e =
@@ -149,6 +192,81 @@ contain_keeps told route threads wanted s n by ended links turned e =
       | inl a ↦ omega (arith, a)
       | inr b ↦ elim b [ inl c ↦ omega (arith, c) | inr d ↦ omega (arith, d) ]
     ]
+
+-- ---- a plain command, by the status of its end
+
+plain_none : (command : Order) (s n : PlainSide) (site : Option SiteFound) (by : PlainEnd) → EndsSo command s n site by → is_plain command ≡ false → number_of by ≡ 2
+plain_none command s n site plain.Done said none = let built = said.0 in cc
+plain_none command s n site plain.Bad said none = let built = said.0 in cc
+plain_none command s n site plain.NoCommand said none = refl
+plain_none command s n site plain.Refused said none = let built = said.0 in cc
+plain_none command s n site plain.Running said none = let built = said.0 in cc
+plain_none command s n site plain.InputFault said none = let built = said.0 in cc
+plain_none command s n site plain.OutputFault said none = let built = said.0 in cc
+plain_none command s n site plain.NoMemory said none = let built = said.0 in cc
+
+plain_two : (command : Order) (s n : PlainSide) (site : Option SiteFound) (by : PlainEnd) → EndsSo command s n site by → number_of by ≡ 2 → is_plain command ≡ false
+plain_two command s n site plain.Done said two = let is : 0 ≡ 2 = two in absurd (omega (arith, is))
+plain_two command s n site plain.Bad said two = let is : 1 ≡ 2 = two in absurd (omega (arith, is))
+plain_two command s n site plain.NoCommand said two = said.0
+plain_two command s n site plain.Refused said two = let is : 3 ≡ 2 = two in absurd (omega (arith, is))
+plain_two command s n site plain.Running said two = let is : 4 ≡ 2 = two in absurd (omega (arith, is))
+plain_two command s n site plain.InputFault said two = let is : 4 ≡ 2 = two in absurd (omega (arith, is))
+plain_two command s n site plain.OutputFault said two = let is : 5 ≡ 2 = two in absurd (omega (arith, is))
+plain_two command s n site plain.NoMemory said two = let is : 6 ≡ 2 = two in absurd (omega (arith, is))
+
+plain_five : (command : Order) (s n : PlainSide) (site : Option SiteFound) (by : PlainEnd) → EndsSo command s n site by → number_of by ≡ 5 → Rose s.faults.output n.faults.output
+plain_five command s n site plain.Done said five = let is : 0 ≡ 5 = five in absurd (omega (arith, is))
+plain_five command s n site plain.Bad said five = let is : 1 ≡ 5 = five in absurd (omega (arith, is))
+plain_five command s n site plain.NoCommand said five = let is : 2 ≡ 5 = five in absurd (omega (arith, is))
+plain_five command s n site plain.Refused said five = let is : 3 ≡ 5 = five in absurd (omega (arith, is))
+plain_five command s n site plain.Running said five = let is : 4 ≡ 5 = five in absurd (omega (arith, is))
+plain_five command s n site plain.InputFault said five = let is : 4 ≡ 5 = five in absurd (omega (arith, is))
+plain_five command s n site plain.OutputFault said five = said.1.1
+plain_five command s n site plain.NoMemory said five = let is : 6 ≡ 5 = five in absurd (omega (arith, is))
+
+plain_six : (command : Order) (s n : PlainSide) (site : Option SiteFound) (by : PlainEnd) → EndsSo command s n site by → number_of by ≡ 6 → n.faults.output ≡ s.faults.output
+plain_six command s n site plain.Done said six = let is : 0 ≡ 6 = six in absurd (omega (arith, is))
+plain_six command s n site plain.Bad said six = let is : 1 ≡ 6 = six in absurd (omega (arith, is))
+plain_six command s n site plain.NoCommand said six = let is : 2 ≡ 6 = six in absurd (omega (arith, is))
+plain_six command s n site plain.Refused said six = let is : 3 ≡ 6 = six in absurd (omega (arith, is))
+plain_six command s n site plain.Running said six = let is : 4 ≡ 6 = six in absurd (omega (arith, is))
+plain_six command s n site plain.InputFault said six = let is : 4 ≡ 6 = six in absurd (omega (arith, is))
+plain_six command s n site plain.OutputFault said six = let is : 5 ≡ 6 = six in absurd (omega (arith, is))
+plain_six command s n site plain.NoMemory said six = said.1.1.1.1
+
+pub plain_ends : {L : Type 0} (command : Order) (s n : PlainSide) (site : Option SiteFound) (by : PlainEnd) (status : ℕ) → EndsSo command s n site by → status ≡ number_of by
+    → EndsPlain {L = L} command s n (end.Status status) site
+plain_ends command s n site by status said is = record { by = by; said = said; turned = rw is refl }
+
+-- 2 comes with no command alone
+pub plain_done : {L : Type 0} (command : Order) (s n : PlainSide) (site : Option SiteFound) (by : PlainEnd) (status : ℕ) → EndsSo command s n site by → status ≡ number_of by
+    → end.Status {L = L} status ≡ end.Status 2 → is_plain command ≡ false
+plain_done command s n site by status said is two = let same : status ≡ 2 = cc in plain_two command s n site by said (sym is ∙ same)
+
+pub plain_no_command : {L : Type 0} (command : Order) (s n : PlainSide) (site : Option SiteFound) (by : PlainEnd) (status : ℕ) → EndsSo command s n site by → status ≡ number_of by
+    → (asked : Result Order WordsError) → asked ≡ Ok command → is_served command ≡ false → (end.Status {L = L} status ≡ end.Status 2) ↔ IsNoCommand asked
+plain_no_command {L} command s n site by status said is asked meant served =
+    (
+      λ two.
+          let no = plain_done {L} command s n site by status said is two in
+          let neither : (is_served command || is_plain command) ≡ false = rw (served, no) refl in
+          rw meant neither,
+      λ none.
+          let neither : (is_served command || is_plain command) ≡ false = rw meant at none in
+          let no : is_plain command ≡ false = rw served at neither in
+          rw (is, plain_none command s n site by said no) refl,
+    )
+
+-- 5 only where the output's faults rose
+pub plain_loses : {L : Type 0} (command : Order) (s n : PlainSide) (site : Option SiteFound) (by : PlainEnd) (status : ℕ) → EndsSo command s n site by → status ≡ number_of by
+    → end.Status {L = L} status ≡ end.Status 5 → Rose s.faults.output n.faults.output
+plain_loses command s n site by status said is five = let same : status ≡ 5 = cc in plain_five command s n site by said (sym is ∙ same)
+
+-- 6 only where they stand
+pub plain_wants : (command : Order) (s n : PlainSide) (site : Option SiteFound) (by : PlainEnd) (status : ℕ) → EndsSo command s n site by → status ≡ number_of by
+    → status ≡ 6 → n.faults.output ≡ s.faults.output
+plain_wants command s n site by status said is six = plain_six command s n site by said (sym is ∙ six)
 
 -- an order that asks for workers or threads is a command
 pub served_command : (asked : Result Order WordsError) (o same : Order) → asked ≡ Ok o → o ≡ same → is_served same ≡ true → IsNoCommand asked → ⊥

@@ -1,5 +1,5 @@
 -- Which orders ask for workers, and which are a command at all.
-use Rattle.std.specs.Prelude.{◌≡◌, Bool, true, false, ◌||◌, Result, Ok, Err}
+use Rattle.std.specs.Prelude.{◌≡◌, Bool, true, false, ◌||◌, Result, Ok, Err, IfOk}
 use Rattle.jk_cli.specs.declared.order.Order.{Order}
 use Rattle.jk_cli.specs.declared.order.Order.TheVariants as order
 use Rattle.jk_cli.specs.declared.order.WordsError.{WordsError}
@@ -13,6 +13,14 @@ is_served (order.Serve o) = true
 is_served (order.Container route address threads clients) = true
 is_served (order.Drill seed threads requests text passes) = true
 is_served other = false
+
+-- `So` holds of what was read of the words, where it asks for workers or threads.
+abbrev pub IfServed : Result Order WordsError → (So : Order → Type 0) → Type 0
+IfServed asked So = IfOk asked (λ o. is_served o ≡ true → So o)
+
+-- `So` holds of it where it asks for none.
+abbrev pub IfPlain : Result Order WordsError → (So : Order → Type 0) → Type 0
+IfPlain asked So = IfOk asked (λ o. is_served o ≡ false → So o)
 
 -- a command that `run_jkd` does: all but `demo`, which runs some of them
 abbrev pub is_command : Order → Bool

@@ -1,12 +1,13 @@
 //! `run_jkd`: the command that was read of the words.
 ghost use Rattle.std.specs.Prelude.{◌≡◌, ◌↔◌, ◌⊎◌, true, false, Err, IfOk, IsOkAnd};
 ghost use Rattle.jk_io.specs.Told.{Rose};
-ghost use Rattle.plain_commands.specs.Endings.{number_of, plain_side};
+ghost use Rattle.plain_commands.specs.Endings.{plain_side, told_outside};
 ghost use Rattle.plain_commands.specs.Plain.{InputIsDue};
 ghost use Rattle.jk_server.specs.Commands.{telling};
 ghost use Rattle.jk_commands.specs.Commands.{DoesAsked};
-ghost use Rattle.jk_commands.specs.Orders.{is_served, IsNoCommand, reads_files};
-ghost use Rattle.jk_commands.specs.Plain.{EndsPlain, RunsPlain};
+ghost use Rattle.jk_commands.specs.Ends.{status_of};
+ghost use Rattle.jk_commands.specs.Orders.{IfPlain, IfServed, IsNoCommand, reads_files};
+ghost use Rattle.jk_commands.specs.Plain.{EndsPlain};
 
 use crate::ends::{EndOf, JkdEnd, NO_COMMAND, NO_MEMORY};
 use drill::{DrillOrder, write_drill};
@@ -23,24 +24,6 @@ use std::thread::Threads;
 /// Lets a value go. A caller's check then doesn't write out the drop of a large value.
 pub fn let_go<T: Drop>(_it: T) {}
 
-/// Does a plain command, and answers how it ended.
-fn do_plain<F: Files, S: Source, O: Sink>(
-    alloc: Global,
-    order: &Order,
-    files: &mut F,
-    input: &mut S,
-    out: &mut O,
-) -> PlainRun
-    ensures plain { let at = plain_side F.Files S.Meanings O.Meanings in
-        RunsPlain order.now (at files.old input.old out.old) (at files.new input.new out.new) (number_of result.end) result.site }
-    ensures files { (files.new ≡ files.old) ⊎ (reads_files order.now ≡ true) }
-    ensures input { (input.new ≡ input.old)
-        ⊎ InputIsDue (record { files = F.files files.old; incoming = S.incoming input.old }) order.now }
-    ensures nothing { number_of result.end ≡ 2 → (files.new ≡ files.old) × (input.new ≡ input.old) }
-{
-    run_plain(alloc, order, files, input, out)
-}
-
 /// Does the command that was read of the words, by `read_words`, and answers how it ended; a plain command that judged the files
 /// of a site also what it found of them.
 pub fn run_jkd<F: Files, S: Source, O: Sink, W: World, R: Threads + Wait + Sync>(
@@ -55,18 +38,17 @@ pub fn run_jkd<F: Files, S: Source, O: Sink, W: World, R: Threads + Wait + Sync>
 where
     <W::D as Door>::L: Send,
     // An order that asks for workers or threads: `serve`, `container` and `drill`. Its input isn't looked at.
-    ensures serves { IfOk asked.now (λ o. is_served o ≡ true → DoesAsked (telling F.Files O.Meanings ⟦<W as ToldWorld>⟧.told)
+    ensures serves { IfServed asked.now (λ o. DoesAsked (telling F.Files O.Meanings ⟦<W as ToldWorld>⟧.told)
         o (files.old, out.old, world.old) (files.new, out.new, world.new) result.0) }
 
     // Any other order: a plain command, or none. The world isn't asked.
-    ensures plain { IfOk asked.now (λ o. is_served o ≡ false → let at = plain_side F.Files S.Meanings O.Meanings in
+    ensures plain { IfPlain asked.now (λ o. let at = plain_side F.Files S.Meanings O.Meanings in
         EndsPlain o (at files.old input.old out.old) (at files.new input.new out.new) result.0 result.1) }
-    ensures world { IfOk asked.now (λ o. is_served o ≡ false → world.new ≡ world.old) }
+    ensures world { IfPlain asked.now (λ _. world.new ≡ world.old) }
 
     // Files are read where the command has some, and of the input nothing unless a plain command reads it.
     ensures files { (files.new ≡ files.old) ⊎ IsOkAnd asked.now (λ o. reads_files o ≡ true) }
-    ensures input { (input.new ≡ input.old) ⊎ IsOkAnd asked.now (λ o.
-        InputIsDue (record { files = F.files files.old; incoming = S.incoming input.old }) o) }
+    ensures input { (input.new ≡ input.old) ⊎ IsOkAnd asked.now (InputIsDue (told_outside F.Files S.Meanings files.old input.old)) }
 
     // No command, exactly by what was read of the words.
     ensures no_command { (result.0 ≡ EndOf.Status 2) ↔ IsNoCommand asked.now }
@@ -77,8 +59,9 @@ where
     ensures no_memory { asked.now ≡ Err WordsError.NoMemory → (result.0 ≡ EndOf.Status 6) × (files.new ≡ files.old)
         × (input.new ≡ input.old) × (out.new ≡ out.old) × (world.new ≡ world.old) }
 
-    // Only where the output's faults rose.
+    // Only where the output's faults rose; and want of memory hides no failed write.
     ensures output_fault { result.0 ≡ EndOf.Status 5 → Rose (O.faults out.old) (O.faults out.new) }
+    ensures wanting { status_of result.0 ≡ 6 → O.faults out.new ≡ O.faults out.old }
 {
     match asked {
         Ok(Order::Serve(order)) => (
@@ -113,7 +96,7 @@ where
             (EndOf::from(write_drill(rt, alloc, order, out)), None)
         }
         Ok(order) => {
-            let PlainRun { end, site } = do_plain(alloc, order, files, input, out);
+            let PlainRun { end, site } = run_plain(alloc, order, files, input, out);
             (EndOf::Status(end.status()), site)
         }
         Err(WordsError::Bad) => (EndOf::Status(NO_COMMAND), None),

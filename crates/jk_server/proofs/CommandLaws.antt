@@ -5,7 +5,7 @@ use Rattle.jk_io.specs.declared.failures.IoError.{IoError}
 use Rattle.jk_io.specs.declared.failures.IoError.TheVariants as io
 use Rattle.ajp_container.specs.declared.app_config.AppConfig.{AppConfig}
 use Rattle.site_reports.specs.Readings.{CommandOutside}
-use Rattle.jk_server.specs.Commands.{CommandSide, ContainsLinks, LacksLog, RunsContainer, ServesFiles, Unread, Works, NoGear, NoRoom}
+use Rattle.jk_server.specs.Commands.{CommandSide, ContainsLinks, KeepsOutput, LacksLog, RunsContainer, ServesFiles, Unread, Works, NoGear, NoRoom}
 use Rattle.request_log.specs.declared.format.Part.{Part as FormatPart}
 use Rattle.jk_server.specs.Ends.{end_by}
 use Rattle.gear_parts.specs.Wants.{GearWants}
@@ -45,12 +45,12 @@ some_asked n count same some = omega (arith, same, some)
 
 -- the files of a site couldn't be read
 pub unread : {W G C S O X Z L T : Type 0} (told : Tells W G C S O X Z) (outside : CommandOutside) (workers map : List ℕ) (format : List FormatPart) (threads : ℕ) (wanted : GearWants) (s n : CommandSide G) (e : IoError) (ended : CommandEnd L)
-    → HasCause {T = T} s.file_faults n.file_faults (Err e) → ended ≡ end_by e → n.sent ≡ s.sent → n.world ≡ s.world
+    → HasCause {T = T} s.file_faults n.file_faults (Err e) → ended ≡ end_by e → KeepsOutput s n → n.world ≡ s.world
     → ServesFiles told outside workers map format threads wanted s n ended
-unread told outside workers map format threads wanted s n io.Failed ended cause is written world =
-    Unread (record { why = inl (is, cause.failed refl); written = written; world = world })
-unread told outside workers map format threads wanted s n io.NoMemory ended cause is written world =
-    Unread (record { why = inr is; written = written; world = world })
+unread told outside workers map format threads wanted s n io.Failed ended cause is output world =
+    Unread (record { why = inl (is, cause.failed refl); output = output; world = world })
+unread told outside workers map format threads wanted s n io.NoMemory ended cause is output world =
+    Unread (record { why = inr (is, cause.wanted refl); output = output; world = world })
 
 -- the application of a route that is short enough
 pub app_of : (route : List ℕ) → length route ≤ 1024 → AppConfig

@@ -151,12 +151,17 @@ pub record RunsContainer {W G C S O X Z L : Type 0} (told : Tells W G C S O X Z)
 
 -- ---- all that a command does
 
--- How the writing of a text ends: it was written, which gives this status, or a front of it.
+-- Nothing was written, and no write failed.
+abbrev pub KeepsOutput : {G : Type 0} → (s n : CommandSide G) → Type 0
+KeepsOutput s n = (n.sent ≡ s.sent) × (n.output_faults ≡ s.output_faults)
+
+-- How the writing of a text ends: it was written, which gives this status, or a front of it. For want of memory only where no
+-- write failed.
 abbrev pub Writes : {L : Type 0} → (status : ℕ) → (sent sent_now : Option (List ℕ)) → (faults faults_now : ℕ) → (text : List ℕ) → CommandEnd L → Type 0
 Writes status sent sent_now faults faults_now text ended =
     ((sent_now ≡ appended sent text) × (ended ≡ end.Status status))
     ⊎ (PutsFront sent sent_now text × (ended ≡ end.Status 5) × Rose faults faults_now)
-    ⊎ (PutsFront sent sent_now text × (ended ≡ end.Status 6))
+    ⊎ (PutsFront sent sent_now text × (ended ≡ end.Status 6) × (faults_now ≡ faults))
 
 -- How the writing of a line that refuses ends.
 abbrev pub WritesLine : {L : Type 0} → (sent sent_now : Option (List ℕ)) → (faults faults_now : ℕ) → (line : List ℕ) → CommandEnd L → Type 0
@@ -171,8 +176,8 @@ pub record RefusesFiles {G L : Type 0} (outside : CommandOutside) (workers map :
 
 -- The files couldn't be read, and nothing was done.
 pub record LacksFiles {G L : Type 0} (s n : CommandSide G) (ended : CommandEnd L) : Type 0 where
-  pub why : ((ended ≡ end.Status 4) × Rose s.file_faults n.file_faults) ⊎ (ended ≡ end.Status 6)
-  pub written : n.sent ≡ s.sent
+  pub why : ((ended ≡ end.Status 4) × Rose s.file_faults n.file_faults) ⊎ ((ended ≡ end.Status 6) × (n.file_faults ≡ s.file_faults))
+  pub output : KeepsOutput s n
   pub world : n.world ≡ s.world
 
 -- The files are a site, for which this many workers were wanted. Nothing was written.
@@ -181,7 +186,7 @@ pub record ServesSite {W G C S O X Z L : Type 0} (told : Tells W G C S O X Z) (o
   pub rules : List Rule
   pub site : IsSite outside workers map cfg rules
   pub works : Works threads (RunsLogged told cfg rules format threads wanted) s.world n.world ended
-  pub written : n.sent ≡ s.sent
+  pub output : KeepsOutput s n
 
 -- A site of these files is served, with logs of this format where logs are wanted.
 pub data ServesFiles {W G C S O X Z L : Type 0} (told : Tells W G C S O X Z) (outside : CommandOutside) (workers map : List ℕ) (format : List FormatPart) (threads : ℕ) (wanted : GearWants) (s n : CommandSide G) (ended : CommandEnd L) : Type 0 where
@@ -206,7 +211,7 @@ pub record RefusesFormat {G L : Type 0} (text : List ℕ) (s n : CommandSide G) 
 pub record LacksFormat {G L : Type 0} (s n : CommandSide G) (ended : CommandEnd L) : Type 0 where
   pub status : ended ≡ end.Status 6
   pub unread : n.file_faults ≡ s.file_faults
-  pub written : n.sent ≡ s.sent
+  pub output : KeepsOutput s n
   pub world : n.world ≡ s.world
 
 -- `serve WORKERS MAP ADDRESS THREADS`, with logs of the format that this text is, where logs are wanted
@@ -231,7 +236,7 @@ pub record ContainsLinks {W G C S O X Z L : Type 0} (told : Tells W G C S O X Z)
 -- `container ROUTE ADDRESS THREADS`. Nothing was written.
 pub record Contains {W G C S O X Z L : Type 0} (told : Tells W G C S O X Z) (route : List ℕ) (threads : ℕ) (wanted : GearWants) (s n : CommandSide G) (ended : CommandEnd L) : Type 0 where
   pub contained : ContainsLinks told route threads wanted s.world n.world ended
-  pub written : n.sent ≡ s.sent
+  pub output : KeepsOutput s n
 
 -- ---- the same of what a command goes over, as it was before and is after it
 

@@ -1,10 +1,10 @@
 //! The order that was read, done over the system's files and streams and a world.
-ghost use Rattle.std.specs.Prelude.{◌≡◌, ◌↔◌, true, false, IfOk};
+ghost use Rattle.std.specs.Prelude.{◌≡◌, ◌↔◌};
 ghost use Rattle.plain_commands.specs.Endings.{plain_side};
 ghost use Rattle.jk_server.specs.Commands.{telling};
 ghost use Rattle.jk_commands.specs.Commands.{DoesAsked};
 ghost use Rattle.jk_commands.specs.Ends.{status_of};
-ghost use Rattle.jk_commands.specs.Orders.{is_served, IsNoCommand};
+ghost use Rattle.jk_commands.specs.Orders.{IfPlain, IfServed, IsNoCommand};
 ghost use Rattle.jk_commands.specs.Plain.{EndsPlain};
 
 use crate::ahead_files::AheadFiles;
@@ -54,9 +54,9 @@ fn do_in<F: Files, S: Source, O: Sink, W: World, R: AllocGlobal + Threads + Wait
 where
     <W::D as Door>::L: Send,
     ensures status { result.status ≡ status_of result.end }
-    ensures serves { IfOk asked.now (λ o. is_served o ≡ true → DoesAsked (telling F.Files O.Meanings ⟦<W as ToldWorld>⟧.told)
+    ensures serves { IfServed asked.now (λ o. DoesAsked (telling F.Files O.Meanings ⟦<W as ToldWorld>⟧.told)
         o (files.old, out.old, world.old) (files.new, out.new, world.new) result.end) }
-    ensures plain { IfOk asked.now (λ o. is_served o ≡ false → let s = plain_side F.Files S.Meanings O.Meanings in
+    ensures plain { IfPlain asked.now (λ o. let s = plain_side F.Files S.Meanings O.Meanings in
         EndsPlain o (s files.old input.old out.old) (s files.new input.new out.new) result.end result.site) }
     ensures no_command { (result.end ≡ EndOf.Status 2) ↔ IsNoCommand asked.now }
 {

@@ -80,14 +80,19 @@ match_ok outside verbose w m workers map first second (Err e) says = tt
 
 -- ---- what is answered to texts that are read, and to one that is too long
 
--- a call that never fails has the cause that was known before it
-pub cause_kept : {A B : Type 0} (before now : ℕ) (known : Result A IoError) (result : Result B IoError) → IsCaused before now known
+-- what never fails after a read that was done has the cause of that read
+pub cause_kept : {A B : Type 0} (before now : ℕ) (read : A) (result : Result B IoError) → IsCaused before now (Ok read)
     → (IsErrOf result io.Failed → ⊥) → IsCaused before now result
-cause_kept before now known result cause never = record { no_fewer = cause.no_fewer; failed = λ failed. absurd (never failed) }
+cause_kept before now read result cause never = record {
+  no_fewer = cause.no_fewer;
+  failed = λ failed. absurd (never failed);
+  wanted = λ _. cause.steady tt;
+  steady = λ _. cause.steady tt;
+}
 
 -- nothing was read
 pub never_caused : {B : Type 0} (before : ℕ) (result : Result B IoError) → (IsErrOf result io.Failed → ⊥) → IsCaused before before result
-never_caused before result never = record { no_fewer = omega arith; failed = λ failed. absurd (never failed) }
+never_caused before result never = record { no_fewer = omega arith; failed = λ failed. absurd (never failed); wanted = λ _. refl; steady = λ _. refl }
 
 pub long_ok : {X : Type 0} (outside : X → CommandOutside) (all : List Reading) (Of : List (List ℕ) → List ℕ → ℕ → Option SiteFound → Type 0) (result : Result PlainAnswer IoError)
     → IfOk result IsTooLong → ((x : X) → StopsLong (outside x) all) → IfOk result (λ o. (x : X) → OfAnswer (PrintsOf (outside x) all Of) o)

@@ -31,7 +31,8 @@ number_of end.InputFault = 4
 number_of end.OutputFault = 5
 number_of end.NoMemory = 6
 
--- How the writing of a text ends, after a command that was answered with this ending.
+-- How the writing of a text ends, after a command that was answered with this ending. For want of memory only where no write
+-- failed.
 abbrev pub Writes : (faults faults_now : ℕ) (sent sent_now : Option (List ℕ)) (text : List ℕ) → Ending → PlainEnd → Type 0
 Writes faults faults_now sent sent_now text answered end.Done = (answered ≡ ending.Done) × (sent_now ≡ appended sent text)
 Writes faults faults_now sent sent_now text answered end.Bad = (answered ≡ ending.Bad) × (sent_now ≡ appended sent text)
@@ -40,7 +41,7 @@ Writes faults faults_now sent sent_now text answered end.Refused = (answered ≡
 Writes faults faults_now sent sent_now text answered end.Running = (answered ≡ ending.Running) × (sent_now ≡ sent)
 Writes faults faults_now sent sent_now text answered end.InputFault = ⊥
 Writes faults faults_now sent sent_now text answered end.OutputFault = Rose faults faults_now × PutsFront sent sent_now text
-Writes faults faults_now sent sent_now text answered end.NoMemory = PutsFront sent sent_now text
+Writes faults faults_now sent sent_now text answered end.NoMemory = PutsFront sent sent_now text × (faults_now ≡ faults)
 
 -- How often the files, the input and the output of a command failed.
 pub record Faults : Type 0 where
@@ -52,21 +53,31 @@ pub record Faults : Type 0 where
 abbrev pub ReadFails : (old new : Faults) → Type 0
 ReadFails old new = Rose old.files new.files ⊎ Rose old.input new.input
 
+-- Neither a read nor a write failed.
+abbrev pub NoneFailed : (old new : Faults) → Type 0
+NoneFailed old new = (new.files ≡ old.files) × (new.input ≡ old.input) × (new.output ≡ old.output)
+
 -- All that a command uses, as it is told: what it may read, what its output was sent, and how often each failed.
 pub record PlainSide : Type 0 where
   pub outside : CommandOutside
   pub sent : Option (List ℕ)
   pub faults : Faults
 
+-- what a command reads, by what its files and its input tell: `told_outside F.Files S.Meanings files input`
+abbrev pub told_outside : {F S X : Type 0} → FilesGhosts F → Ghosts S X → F → S → CommandOutside
+told_outside of_files of_input files input = record { files = of_files.files files; incoming = of_input.incoming input }
+
 -- all of it at a moment, by what the types tell: `plain_side F.Files S.Meanings O.Meanings files input out`
 abbrev pub plain_side : {F S O X Y : Type 0} → FilesGhosts F → Ghosts S X → Ghosts O Y → F → S → O → PlainSide
 plain_side of_files of_input of_output files input out = record {
-  outside = record { files = of_files.files files; incoming = of_input.incoming input };
+  outside = told_outside of_files of_input files input;
   sent = of_output.sent out;
   faults = record { files = of_files.faults files; input = of_input.faults input; output = of_output.faults out };
 }
 
--- A command that is built, by each end, and the site that it judged.
+-- A command that is built, by each end, and the site that it judged: just what it prints was written; or a front that was told to
+-- end may still run, or a read failed, and nothing was written; or a write failed, after a front; or memory was wanted, before
+-- anything was written or in a write, and nothing failed.
 abbrev pub AnswersSo : (command : Order) → (s n : PlainSide) → Option SiteFound → PlainEnd → Type 0
 AnswersSo command s n site end.Done = Prints command s.outside s.sent n.sent 0 site
 AnswersSo command s n site end.Bad = Prints command s.outside s.sent n.sent 1 site
@@ -75,16 +86,12 @@ AnswersSo command s n site end.Refused = Prints command s.outside s.sent n.sent 
 AnswersSo command s n site end.Running = (n.sent ≡ s.sent) × EndsWith command s.outside 4
 AnswersSo command s n site end.InputFault = (n.sent ≡ s.sent) × ReadFails s.faults n.faults
 AnswersSo command s n site end.OutputFault = PrintsFront command s.outside s.sent n.sent × Rose s.faults.output n.faults.output
-AnswersSo command s n site end.NoMemory = (n.sent ≡ s.sent) ⊎ PrintsFront command s.outside s.sent n.sent
+AnswersSo command s n site end.NoMemory = ((n.sent ≡ s.sent) ⊎ PrintsFront command s.outside s.sent n.sent) × NoneFailed s.faults n.faults
 
--- An order, by each end.
+-- An order, by each end: one that is no plain command changes nothing.
 abbrev pub EndsSo : (command : Order) → (s n : PlainSide) → Option SiteFound → PlainEnd → Type 0
-EndsSo command s n site end.NoCommand = (is_plain command ≡ false) × (n.sent ≡ s.sent)
+EndsSo command s n site end.NoCommand = (is_plain command ≡ false) × (n ≡ s)
 EndsSo command s n site ended = (is_plain command ≡ true) × AnswersSo command s n site ended
-
--- Why a command ends with status 4: a read of the files or of the input failed, or a front that was told to stop may still run.
-abbrev pub IsInputFault : (command : Order) → (s n : PlainSide) → Type 0
-IsInputFault command s n = Rose s.faults.files n.faults.files ⊎ Rose s.faults.input n.faults.input ⊎ EndsWith command s.outside 4
 
 -- ---- what is answered, before it is written
 

@@ -1,9 +1,9 @@
 //! The answer of each plain command, from the texts that it read.
-ghost use Rattle.std.specs.Prelude.{◌≡◌, ◌≤◌, ◌⊎◌, [], ◌∷◌, length, Some, None, true, IfOk, IsErrOf};
+ghost use Rattle.std.specs.Prelude.{◌≡◌, ◌≤◌, ◌⊎◌, [], ◌∷◌, length, Some, None, true, IfOk, IsOk, IsErrOf};
 ghost use Rattle.jk_cli.specs.declared.order.Order.TheVariants as order;
 ghost use Rattle.jk_io.specs.Told.{Rose};
 ghost use Rattle.plain_commands.specs.Causes.{IsCaused};
-ghost use Rattle.plain_commands.specs.Endings.{OfAnswer, PlainOfFiles, PlainOfInput, PrintsOfInput, status_of};
+ghost use Rattle.plain_commands.specs.Endings.{OfAnswer, PlainOfFiles, PlainOfInput, PrintsOfInput, status_of, told_outside};
 ghost use Rattle.plain_commands.specs.Plain.{is_plain, readings, HasFormat, InputIsDue, MatchesRead, Plain, StopsFront};
 ghost use Rattle.site_reports.specs.Readings.{has_file, Input};
 ghost use Rattle.jk_io.specs.declared.whole_input.TheConstants.{MAX_INPUT_BYTES};
@@ -127,11 +127,13 @@ fn match_paths<F: Files, S: Source>(
     map: &Bytes,
     verbose: bool,
 ) -> Result<PlainAnswer, IoError>
-    ensures ok { IfOk result (OfAnswer (Plain (record { files = F.files files.old; incoming = S.incoming input.old })
+    ensures ok { IfOk result (OfAnswer (Plain (told_outside F.Files S.Meanings files.old input.old)
         (order.Match workers.now map.now verbose))) }
     ensures failed { IsErrOf result IoError.Failed → Rose (F.faults files.old) (F.faults files.new) ⊎ Rose (S.faults input.old) (S.faults input.new) }
+    ensures wanted { IsErrOf result IoError.NoMemory → (F.faults files.new ≡ F.faults files.old) × (S.faults input.new ≡ S.faults input.old) }
+    ensures steady { IsOk result → (F.faults files.new ≡ F.faults files.old) × (S.faults input.new ≡ S.faults input.old) }
     ensures input { (input.new ≡ input.old)
-        ⊎ InputIsDue (record { files = F.files files.old; incoming = S.incoming input.old }) (order.Match workers.now map.now verbose) }
+        ⊎ InputIsDue (told_outside F.Files S.Meanings files.old input.old) (order.Match workers.now map.now verbose) }
 {
     match read_pair(alloc, files, workers, map)? {
         None => too_long(alloc),
@@ -173,12 +175,13 @@ pub(crate) fn answer<F: Files, S: Source>(
     input: &mut S,
 ) -> Result<PlainAnswer, IoError>
     requires built { is_plain order.now ≡ true }
-    ensures ok { IfOk result (OfAnswer (Plain (record { files = F.files files.old; incoming = S.incoming input.old }) order.now)) }
+    ensures ok { IfOk result (OfAnswer (Plain (told_outside F.Files S.Meanings files.old input.old) order.now)) }
     ensures failed { IsErrOf result IoError.Failed → Rose (F.faults files.old) (F.faults files.new) ⊎ Rose (S.faults input.old) (S.faults input.new) }
+    ensures wanted { IsErrOf result IoError.NoMemory → (F.faults files.new ≡ F.faults files.old) × (S.faults input.new ≡ S.faults input.old) }
+    ensures steady { IsOk result → (F.faults files.new ≡ F.faults files.old) × (S.faults input.new ≡ S.faults input.old) }
     ensures files { (files.new ≡ files.old) ⊎ (has_file (readings order.now) ≡ true) }
     ensures format { (files.new ≡ files.old) ⊎ HasFormat order.now }
-    ensures input { (input.new ≡ input.old)
-        ⊎ InputIsDue (record { files = F.files files.old; incoming = S.incoming input.old }) order.now }
+    ensures input { (input.new ≡ input.old) ⊎ InputIsDue (told_outside F.Files S.Meanings files.old input.old) order.now }
 {
     match order {
         Order::Play => play_input(alloc, input),

@@ -6,7 +6,7 @@
 //! in journal_verdict's specs/Verdicts.antt, what is followed in its specs/Followed.antt. What `dry` and `log`
 //! print is in specs/Dry.antt; their session is that of `client_session`, and the log's lines are those of `request_log`.
 //! Shapes: talks are listed newest first where a definition tells over which links they were done.
-//! Contract: `run_plain`, a clause for each status. Read first: specs/Plain.antt, then site_reports' specs/Readings.antt; of
+//! Contract: `run_plain`, by each end. Read first: specs/Plain.antt, specs/Endings.antt, then site_reports' specs/Readings.antt; of
 //! `dry` and `log` specs/Dry.antt, then specs/DryLines.antt and specs/DryLinks.antt; of `follow` specs/FollowedTexts.antt.
 //! Errors: the ends of `PlainEnd`, whose statuses are 1 to 6, each with its cause.
 #![tactic(auto)]

@@ -1,8 +1,7 @@
 //! The plain commands: those that wait for nobody but their files, input and output.
-ghost use Rattle.std.specs.Prelude.{◌≡◌, ◌≤◌, ◌↔◌, ◌⊎◌, true, false, None};
-ghost use Rattle.jk_io.specs.Told.{Rose};
-ghost use Rattle.plain_commands.specs.Endings.{number_of, plain_side, EndsSo, IsInputFault, Writes};
-ghost use Rattle.plain_commands.specs.Plain.{is_plain, readings, HasFormat, InputIsDue, Prints, PrintsFront};
+ghost use Rattle.std.specs.Prelude.{◌≡◌, ◌⊎◌, true, false, None};
+ghost use Rattle.plain_commands.specs.Endings.{number_of, plain_side, told_outside, EndsSo, Writes};
+ghost use Rattle.plain_commands.specs.Plain.{is_plain, readings, HasFormat, InputIsDue};
 ghost use Rattle.site_reports.specs.Readings.{has_file};
 
 use crate::answered::PlainAnswer;
@@ -105,31 +104,6 @@ fn without_site(end: PlainEnd) -> PlainRun
     PlainRun { end, site: None }
 }
 
-// Does a command that is built.
-fn end_of<F: Files, S: Source, O: Sink>(
-    alloc: Global,
-    order: &Order,
-    files: &mut F,
-    input: &mut S,
-    out: &mut O,
-) -> PlainRun
-    ensures ends { let at = plain_side F.Files S.Meanings O.Meanings in
-        EndsSo order.now (at files.old input.old out.old) (at files.new input.new out.new) result.site result.end }
-    ensures files { (files.new ≡ files.old) ⊎ (has_file (readings order.now) ≡ true) }
-    ensures format { (files.new ≡ files.old) ⊎ HasFormat order.now }
-    ensures input { (input.new ≡ input.old)
-        ⊎ InputIsDue (record { files = F.files files.old; incoming = S.incoming input.old }) order.now }
-{
-    if !is_plain(order) {
-        return without_site(PlainEnd::NoCommand);
-    }
-    match answer(alloc, order, files, input) {
-        Ok(answered) => write_answer(out, answered),
-        Err(IoError::Failed) => without_site(PlainEnd::InputFault),
-        Err(IoError::NoMemory) => without_site(PlainEnd::NoMemory),
-    }
-}
-
 /// Lets a value go. Where it is large, the check of a function that calls this doesn't write its drop out.
 pub(crate) fn let_go<T: Drop>(_it: T) {}
 
@@ -141,40 +115,25 @@ pub fn run_plain<F: Files, S: Source, O: Sink>(
     input: &mut S,
     out: &mut O,
 ) -> PlainRun
-    ensures statuses { number_of result.end ≤ 6 }
+    // By each end what was printed and which site was judged, why it came, and where no read and no write failed.
+    ensures ends { let at = plain_side F.Files S.Meanings O.Meanings in
+        EndsSo order.now (at files.old input.old out.old) (at files.new input.new out.new) result.site result.end }
 
-    // Done, a bad line that was found, or a file or an input that is refused: just what the command prints was written, and the
-    // site that it judged, of the texts that it read, is handed on.
-    ensures done { number_of result.end ≡ 0 → Prints order.now (record { files = F.files files.old; incoming = S.incoming input.old })
-        (O.sent out.old) (O.sent out.new) 0 result.site }
-    ensures bad { number_of result.end ≡ 1 → Prints order.now (record { files = F.files files.old; incoming = S.incoming input.old })
-        (O.sent out.old) (O.sent out.new) 1 result.site }
-    ensures refused { number_of result.end ≡ 3 → Prints order.now (record { files = F.files files.old; incoming = S.incoming input.old })
-        (O.sent out.old) (O.sent out.new) 3 result.site }
+    // No plain command that is built (`play`, `dry`, `config`, `match`, `check`, `log`, `follow` and `stop`): nothing was done.
+    ensures nothing { is_plain order.now ≡ false → (files.new ≡ files.old) × (input.new ≡ input.old) × (out.new ≡ out.old) }
 
-    // Files are read where the command has some, of `log` once its format is one, and of the input nothing unless each of its files is there and not too long.
+    // Files are read where the command has some, of `log` once its format is one, and of the input nothing unless each of its files
+    // is there and not too long.
     ensures files { (files.new ≡ files.old) ⊎ (has_file (readings order.now) ≡ true) }
     ensures format { (files.new ≡ files.old) ⊎ HasFormat order.now }
-    ensures input { (input.new ≡ input.old)
-        ⊎ InputIsDue (record { files = F.files files.old; incoming = S.incoming input.old }) order.now }
-
-    // No plain command that is built (`play`, `dry`, `config`, `match`, `check`, `log`, `follow` and `stop`), exactly by the order.
-    ensures no_command { (number_of result.end ≡ 2) ↔ (is_plain order.now ≡ false) }
-    ensures no_words { number_of result.end ≡ 2 → O.sent out.new ≡ O.sent out.old }
-
-    // Only where the faults of the files or of the input rose, or where `stop` was answered by a front that may still run.
-    ensures input_fault { let at = plain_side F.Files S.Meanings O.Meanings in
-        number_of result.end ≡ 4 → IsInputFault order.now (at files.old input.old out.old) (at files.new input.new out.new) }
-    ensures nothing { number_of result.end ≡ 4 → O.sent out.new ≡ O.sent out.old }
-
-    // Only where the output's faults rose.
-    ensures output_fault { number_of result.end ≡ 5 → Rose (O.faults out.old) (O.faults out.new) }
-    ensures part { number_of result.end ≡ 5 → PrintsFront order.now (record { files = F.files files.old; incoming = S.incoming input.old })
-        (O.sent out.old) (O.sent out.new) }
-
-    // Want of memory, before anything was written or in a write.
-    ensures wanting { number_of result.end ≡ 6 → (O.sent out.new ≡ O.sent out.old)
-        ⊎ PrintsFront order.now (record { files = F.files files.old; incoming = S.incoming input.old }) (O.sent out.old) (O.sent out.new) }
+    ensures input { (input.new ≡ input.old) ⊎ InputIsDue (told_outside F.Files S.Meanings files.old input.old) order.now }
 {
-    end_of(alloc, order, files, input, out)
+    if !is_plain(order) {
+        return without_site(PlainEnd::NoCommand);
+    }
+    match answer(alloc, order, files, input) {
+        Ok(answered) => write_answer(out, answered),
+        Err(IoError::Failed) => without_site(PlainEnd::InputFault),
+        Err(IoError::NoMemory) => without_site(PlainEnd::NoMemory),
+    }
 }

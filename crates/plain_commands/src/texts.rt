@@ -1,5 +1,5 @@
 //! Reading the texts of a command, each whole.
-ghost use Rattle.std.specs.Prelude.{◌≡◌, ◌<◌, ◌≤◌, [], ◌∷◌, Some, length, IfOk, IsOk, IfSome, IfNone, IsSomeAnd};
+ghost use Rattle.std.specs.Prelude.{◌≡◌, ◌<◌, ◌≤◌, [], ◌∷◌, Some, length, IfOk, IfSome, IfNone, IsSomeAnd};
 ghost use Rattle.jk_io.specs.Stored.{content_of};
 ghost use Rattle.plain_commands.specs.Causes.{IsCaused};
 ghost use Rattle.site_reports.specs.Readings.{AreRead, File, OfFiles, StopsLong};
@@ -18,7 +18,6 @@ pub(crate) fn read_text<F: Files>(
     ensures short { IfOk result (λ read. IfSome read (λ text. length text ≤ MAX_INPUT_BYTES)) }
     ensures long { IfOk result (λ read. IfNone read (IfSome (F.files files.old) (λ all. IsSomeAnd (content_of all name.now) (λ text. MAX_INPUT_BYTES < length text)))) }
     ensures cause { IsCaused (F.faults files.old) (F.faults files.new) result }
-    ensures calm { IsOk result → F.faults files.new ≡ F.faults files.old }
     ensures same { F.files files.new ≡ F.files files.old }
 {
     match files.read_file(alloc, name) {
@@ -41,7 +40,6 @@ pub(crate) fn read_pair<F: Files>(
     ensures long { OfFiles (F.files files.old) (λ outside. IfOk result (λ read. IfNone read
         (StopsLong outside (File first.now ∷ File second.now ∷ [])))) }
     ensures cause { IsCaused (F.faults files.old) (F.faults files.new) result }
-    ensures calm { IsOk result → F.faults files.new ≡ F.faults files.old }
     ensures same { F.files files.new ≡ F.files files.old }
 {
     let Some(first) = read_text(alloc, files, first)? else {

@@ -14,7 +14,7 @@ returns-in-Ok-Site g c = record {
         rules = c.in-Ok-Site.site.map;
         site = rw c.in-Ok-Site.field-0-is at (c.in-Ok-Site.ensures.ok incoming);
         works = c.serve_site.ensures;
-        written = refl;
+        output = (refl, refl);
       }));
 }
 
@@ -34,7 +34,7 @@ pub returns : goal.returns
 returns g c = record {
   serves = λ incoming.
       Formatted c.in-Ok.format (rw c.format_text.ensures at c.in-Ok.ensures.ok)
-      (unread _ _ _ _ _ _ _ _ _ c.in-Err.error _ c.in-Err.ensures.cause c.end_by.ensures refl refl);
+      (unread _ _ _ _ _ _ _ _ _ c.in-Err.error _ c.in-Err.ensures.cause c.end_by.ensures (refl, refl) refl);
 }
 
 -- ---- a format that wasn't
@@ -52,4 +52,4 @@ returns-in-Err-BadFormat g c = record {
 }
 
 pub returns-in-Err-NoMemory : goal.returns-in-Err-NoMemory
-returns-in-Err-NoMemory g c = record { serves = λ incoming. NoFormat (record { status = refl; unread = refl; written = refl; world = refl }) }
+returns-in-Err-NoMemory g c = record { serves = λ incoming. NoFormat (record { status = refl; unread = refl; output = (refl, refl); world = refl }) }
