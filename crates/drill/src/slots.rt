@@ -29,7 +29,7 @@ struct Slot<'s, 'r, L: SiteName, R> {
 pub(crate) struct UnusedShare<L: SiteName> {
     pub(crate) share: DeskShare<L>,
     pub ghost amount: { share.amount ≡ 0 },
-    pub ghost sizes: { L.sizes ≡ 2 ∷ [] },
+    pub ghost of_two: { L.sizes ≡ 2 ∷ [] },
 }
 
 /// What the threads leave: their desks' receipts, of which none was forgotten, and the bytes of all bodies.

@@ -28,8 +28,8 @@ pub exchange_of-end-requires-clause-whole : goal.exchange_of-end-requires-clause
 exchange_of-end-requires-clause-whole g c =
     record { place = rw c.request_at-request.ensures.head c.requires.fresh.place; taken = c.requires.fresh.taken; going = c.requires.fresh.going }
 
-pub conclude-requires-clause-within : goal.conclude-requires-clause-within
-conclude-requires-clause-within g c =
+pub conclude-requires : goal.conclude-requires
+conclude-requires g c =
     let v = visit_in c.args.of.now in
     let s = standing_of g.B.Desk.state g.K.Clock.answers g.R.Meanings g.C.Meanings c.args.around.now in
     let q = c.request_at-request.ensures in
