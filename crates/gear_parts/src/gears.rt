@@ -38,6 +38,7 @@ fn take_gear<W: World>(
     ensures err { OnErr result (let at = world_side W.World in HandsNone (at world.old) (at world.new)) }
     ensures same { OnErr result (gears.new.items ≡ gears.old.items) }
     ensures counts { CountsFailure (W.faults world.old) (W.faults world.new) result }
+    ensures unshown { W.shown world.new ≡ W.shown world.old }
 {
     let gear = world.gear(alloc, number, asked)?;
     gears.push_reserved(gear);
@@ -58,6 +59,7 @@ fn fill_gears<W: World>(
     ensures count { OnOk result (vec_len gears.new ≡ threads) }
     ensures fewer { OnErr result (vec_len gears.new < threads) }
     ensures counts { CountsFailure (W.faults world.old) (W.faults world.new) result }
+    ensures unshown { W.shown world.new ≡ W.shown world.old }
 {
     'gears: for number in 0..threads {
         take_gear(alloc, world, number, asked, gears)?;
@@ -82,6 +84,7 @@ pub fn take_gears<W: World>(
     ensures refused { OnErr result (let at = world_side W.World in RefusesGear threads (at world.old) (at world.new)) }
     ensures cause { HasCause (W.faults world.old) (W.faults world.new) result }
     ensures steady { IsOk result → W.faults world.new ≡ W.faults world.old }
+    ensures unshown { W.shown world.new ≡ W.shown world.old }
 {
     let mut gears = Vec::with_capacity(alloc, threads as usize)?;
     match fill_gears(alloc, world, threads, asked, &mut gears) {
@@ -99,6 +102,7 @@ pub fn give_back<W: World>(world: &mut W, gears: Vec<GearOf<W>>)
     ensures came_back { W.came_back world.new ≡ appended (W.came_back world.old) gears.items }
     ensures fewer { W.out world.new + vec_len gears ≡ W.out world.old }
     ensures same { (W.handed world.new ≡ W.handed world.old) × (W.faults world.new ≡ W.faults world.old) }
+    ensures unshown { W.shown world.new ≡ W.shown world.old }
 {
     let mut gears = gears.into_iter();
     give_each(world, &mut gears);
@@ -110,6 +114,7 @@ fn give_each<W: World>(world: &mut W, gears: &mut IntoIter<GearOf<W>>)
     ensures came_back { W.came_back world.new ≡ appended (W.came_back world.old) gears.old.rest.items }
     ensures fewer { W.out world.new + length gears.old.rest.items ≡ W.out world.old }
     ensures same { (W.handed world.new ≡ W.handed world.old) × (W.faults world.new ≡ W.faults world.old) }
+    ensures unshown { W.shown world.new ≡ W.shown world.old }
 {
     'gears: while let Some(gear) = gears.next() {
         world.back(gear);

@@ -28,6 +28,7 @@ fn take_log<W: World>(
     ensures room { OnOk result ((vec_len logs.new ≡ vec_len logs.old + 1) × (vec_capacity logs.new ≡ vec_capacity logs.old)) }
     ensures same { (W.handed world.new ≡ W.handed world.old) × (W.came_back world.new ≡ W.came_back world.old) × (W.out world.new ≡ W.out world.old) }
     ensures counts { CountsFailure (W.faults world.old) (W.faults world.new) result }
+    ensures unshown { W.shown world.new ≡ W.shown world.old }
 {
     let log = world.log(alloc, dir, number)?;
     logs.push_reserved(log);
@@ -48,6 +49,7 @@ fn fill_logs<W: World>(
     ensures count { OnOk result (vec_len logs.new ≡ threads) }
     ensures same { (W.handed world.new ≡ W.handed world.old) × (W.came_back world.new ≡ W.came_back world.old) × (W.out world.new ≡ W.out world.old) }
     ensures counts { CountsFailure (W.faults world.old) (W.faults world.new) result }
+    ensures unshown { W.shown world.new ≡ W.shown world.old }
 {
     'logs: for number in 0..threads {
         take_log(alloc, world, dir, number, logs)?;
@@ -66,6 +68,7 @@ fn logs_for<W: World>(
     ensures count { IfOk result (λ logs. vec_len logs ≡ threads) }
     ensures same { (W.handed world.new ≡ W.handed world.old) × (W.came_back world.new ≡ W.came_back world.old) × (W.out world.new ≡ W.out world.old) }
     ensures counts { CountsFailure (W.faults world.old) (W.faults world.new) result }
+    ensures unshown { W.shown world.new ≡ W.shown world.old }
 {
     let mut logs = Vec::with_capacity(alloc, threads as usize)?;
     match fill_logs(alloc, world, threads, dir, &mut logs) {
@@ -129,6 +132,7 @@ pub fn log_gears<W: World>(
     ensures refused { OnErr result (let at = world_side W.World in HandsAndTakes (at world.old) (at world.new) [] gears.items) }
     ensures cause { HasCause (W.faults world.old) (W.faults world.new) result }
     ensures steady { IsOk result → W.faults world.new ≡ W.faults world.old }
+    ensures unshown { W.shown world.new ≡ W.shown world.old }
 {
     let Some(dir) = dir else {
         return Ok(gears);

@@ -7,6 +7,7 @@ use conn_pool::Tape;
 use jk_io::{Bytes, Clock, Dial, Door, IoError};
 use lb_shared::Shelf;
 use request_log::Timed;
+use site_reports::AcceptedSite;
 use std::alloc::Global;
 
 /// What one worker uses of the outside. A container's worker uses the door alone.
@@ -34,6 +35,7 @@ pub trait World {
     ghost use Rattle.gear_parts.specs.Wants.{GearWants, wants_of};
     ghost use Rattle.gear_parts.specs.declared.world.Gear.{Gear as AnyGear};
     ghost use Rattle.site_config.specs.declared.config.Config.{Config as AnyConfig};
+    ghost use Rattle.site_reports.specs.declared.found.AcceptedSite.{AcceptedSite as AnySite};
 
     type D: Door + Drop + Send;
 
@@ -53,6 +55,9 @@ pub trait World {
     // the gears that came back, each as it was then
     ghost came_back: { Self → Option (List (AnyGear Self.D Self.G Self.T Self.K Self.S Self.O)) };
 
+    // the sites that it was shown, in order; most worlds don't tell
+    ghost shown: { Self → Option (List AnySite) } = { λ _. None };
+
     // how many gears are out
     ghost out: { Self → ℕ };
 
@@ -64,6 +69,13 @@ pub trait World {
 
     // how many calls failed
     ghost faults: { Self → ℕ };
+
+    /// Is shown the site that is to be served, before a gear is asked for. Nothing is handed out or taken back by it, and no
+    /// call fails.
+    fn show_site(&mut self, alloc: Global, site: &AcceptedSite)
+        ensures shown { shown self.new ≡ appended (shown self.old) (site.now ∷ []) }
+        ensures same { (handed self.new ≡ handed self.old) × (came_back self.new ≡ came_back self.old) × (out self.new ≡ out self.old) }
+        ensures steady { faults self.new ≡ faults self.old };
 
     /// Makes what worker `number`, from 0, uses. Its door takes clients at the order's address, by its limits, and has at most
     /// as many to come as the order says. A journal is kept in the order's directory, by the names of the site's balancers.
@@ -89,6 +101,7 @@ pub trait World {
 
         ensures err { OnErr result ((handed self.new ≡ handed self.old) × (out self.new ≡ out self.old)) }
         ensures same { came_back self.new ≡ came_back self.old }
+        ensures unshown { shown self.new ≡ shown self.old }
         ensures cause { HasCause (faults self.old) (faults self.new) result }
         ensures steady { IsOk result → faults self.new ≡ faults self.old };
 
@@ -96,6 +109,7 @@ pub trait World {
     fn log(&mut self, alloc: Global, dir: &Bytes, number: u32) -> Result<Self::O, IoError>
         ensures made { IfOk result (λ log. is_log dir.now number log) }
         ensures same { (handed self.new ≡ handed self.old) × (came_back self.new ≡ came_back self.old) × (out self.new ≡ out self.old) }
+        ensures unshown { shown self.new ≡ shown self.old }
         ensures cause { HasCause (faults self.old) (faults self.new) result }
         ensures steady { IsOk result → faults self.new ≡ faults self.old };
 
@@ -104,5 +118,6 @@ pub trait World {
         requires out { 0 < out self.old }
         ensures came_back { came_back self.new ≡ appended (came_back self.old) (gear ∷ []) }
         ensures one_less { out self.new + 1 ≡ out self.old }
-        ensures same { (handed self.new ≡ handed self.old) × (faults self.new ≡ faults self.old) };
+        ensures same { (handed self.new ≡ handed self.old) × (faults self.new ≡ faults self.old) }
+        ensures unshown { shown self.new ≡ shown self.old };
 }

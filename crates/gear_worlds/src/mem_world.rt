@@ -11,6 +11,7 @@ use jk_io::{
     Bytes, IoError, Link, ListOf, MemDial, MemDoor, MemLink, NoMemory, NumberList, StepClock,
 };
 use lb_shared::MemShelf;
+use site_reports::AcceptedSite;
 use std::alloc::Global;
 use std::marker::Model;
 use std::snapshot::Snapshot;
@@ -202,6 +203,10 @@ impl<L: Link + Drop + Send> World for MemWorld<L> {
     ghost out = { λ w. w.out };
 
     ghost faults = { λ w. w.faults };
+
+    fn show_site(&mut self, _alloc: Global, _site: &AcceptedSite)
+        ensures { self.new ≡ self.old }
+    {}
 
     fn gear(
         &mut self,

@@ -20,6 +20,7 @@ use gear_parts::{Gear, GearOrder, World};
 use jk_io::{Bytes, IoError, NoMemory};
 use real_io::{Notices, Outbox, RealClock, TcpDial, TcpDoor};
 use site_config::{Config, Lb};
+use site_reports::AcceptedSite;
 use std::alloc::Global;
 use std::io::{self, ErrorKind};
 use std::net::{Net, TcpListener, TcpStream};
@@ -549,6 +550,8 @@ where
 
     // the log of a worker is written into its file
     ghost is_log = { λ dir number log. log.path ≡ worker_file dir number };
+
+    fn show_site(&mut self, _alloc: Global, _site: &AcceptedSite) {}
 
     fn gear(
         &mut self,

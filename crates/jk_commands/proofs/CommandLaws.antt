@@ -9,9 +9,9 @@ use Rattle.jk_cli.specs.declared.order.Order.TheVariants as order
 use Rattle.jk_cli.specs.declared.order.WordsError.{WordsError}
 use Rattle.jk_io.specs.Told.{Rose}
 use Rattle.jk_server.specs.Commands.{CommandSide, ContainsLinks, Formatted, NoFormat, RunsContainer, RunsLogged, DoesServe, ServesFiles, Unformatted, Unread, Refused, Served, Works, WritesLine, NoGear, NoRoom, Ran}
-use Rattle.jk_server.specs.Ends.{end_of_closing, end_of_container, end_of_run}
+use Rattle.jk_server.specs.Ends.{end_of_closing, end_of_container, end_of_run, status_of as served_number}
 use Rattle.gear_parts.specs.Wants.{GearWants}
-use Rattle.gear_parts.specs.Worlds.{Tells, WorldSide}
+use Rattle.gear_parts.specs.Worlds.{shown_to, Tells, WorldSide}
 use Rattle.jk_server.specs.declared.orders.ends.CommandEnd.{CommandEnd}
 use Rattle.jk_server.specs.declared.orders.ends.CommandEnd.TheVariants as server
 use Rattle.jk_server.specs.declared.part.WorkerEnd.{WorkerEnd}
@@ -95,8 +95,8 @@ files_status told outside workers map format threads wanted s n ended k (Unread 
     elim w.why [ inl a ↦ let status = a.0 in inl (inr (inl cc)) | inr b ↦ inl (inr (inr cc)) ]
 files_status told outside workers map format threads wanted s n ended k (Refused w) e = line_status s n w.line ended k w.written e
 files_status told outside workers map format threads wanted s n ended k (Served w) e =
-    inl (works_status threads (RunsLogged told w.cfg w.rules format threads wanted) s.world n.world ended k
-    (logged_status told w.cfg w.rules format threads wanted s.world n.world ended k) w.works e)
+    inl (works_status threads (RunsLogged told w.site.workers.config w.site.rules format threads wanted) (shown_to s.world w.site) n.world ended k
+    (logged_status told w.site.workers.config w.site.rules format threads wanted (shown_to s.world w.site) n.world ended k) w.works e)
 
 serve_status : {W G C S O X Z L : Type 0} (told : Tells W G C S O X Z) (outside : CommandOutside) (workers map text : List ℕ) (threads : ℕ) (wanted : GearWants) (s n : CommandSide G) (ended : CommandEnd L) (k : ℕ)
     → DoesServe told outside workers map text threads wanted s n ended → ended ≡ server.Status k → Answered s n k
@@ -110,6 +110,12 @@ served_status : {L : Type 0} (by : CommandEnd L) (k : ℕ) → jkd_end by ≡ en
 served_status (server.Status status) k e = let same : status ≡ k = cc in rw same refl
 served_status (server.Discord discord) k e = cc
 served_status (server.Stray stray) k e = cc
+
+-- the program's status is that of the server's call
+pub same_status : {L : Type 0} (by : CommandEnd L) → status_of (jkd_end by) ≡ served_number by
+same_status (server.Status status) = refl
+same_status (server.Discord discord) = refl
+same_status (server.Stray stray) = refl
 
 -- a call of `serve` never ends with the status of words that are no command
 pub serve_done : {W G C S O X Z L : Type 0} (told : Tells W G C S O X Z) (outside : CommandOutside) (workers map text : List ℕ) (threads : ℕ) (wanted : GearWants) (s n : CommandSide G) (by : CommandEnd L) (ended : EndOf L)
@@ -246,17 +252,16 @@ plain_done command s n site by status said is two = let same : status ≡ 2 = cc
 
 pub plain_no_command : {L : Type 0} (command : Order) (s n : PlainSide) (site : Option SiteFound) (by : PlainEnd) (status : ℕ) → EndsSo command s n site by → status ≡ number_of by
     → (asked : Result Order WordsError) → asked ≡ Ok command → is_served command ≡ false → (end.Status {L = L} status ≡ end.Status 2) ↔ IsNoCommand asked
-plain_no_command {L} command s n site by status said is asked meant served =
-    (
-      λ two.
-          let no = plain_done {L} command s n site by status said is two in
-          let neither : (is_served command || is_plain command) ≡ false = rw (served, no) refl in
-          rw meant neither,
-      λ none.
-          let neither : (is_served command || is_plain command) ≡ false = rw meant at none in
-          let no : is_plain command ≡ false = rw served at neither in
-          rw (is, plain_none command s n site by said no) refl,
-    )
+plain_no_command {L} command s n site by status said is asked meant served = (
+  λ two.
+      let no = plain_done {L} command s n site by status said is two in
+      let neither : (is_served command || is_plain command) ≡ false = rw (served, no) refl in
+      rw meant neither,
+  λ none.
+      let neither : (is_served command || is_plain command) ≡ false = rw meant at none in
+      let no : is_plain command ≡ false = rw served at neither in
+      rw (is, plain_none command s n site by said no) refl,
+)
 
 -- 5 only where the output's faults rose
 pub plain_loses : {L : Type 0} (command : Order) (s n : PlainSide) (site : Option SiteFound) (by : PlainEnd) (status : ℕ) → EndsSo command s n site by → status ≡ number_of by

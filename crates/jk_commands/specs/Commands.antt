@@ -1,16 +1,17 @@
 -- `serve`, `container` and `drill`, by what each does with the outside and how it ends. Read this first; a call of the server
 -- is in jk_server's specs/Commands.antt, one of a drill in drill's specs/Written.antt, which orders are which command in
 -- specs/Orders.antt, and which words are which order in jk_cli's specs/Orders.antt.
-use Rattle.std.specs.Prelude.{◌≡◌, ℕ, Bool}
+use Rattle.std.specs.Prelude.{◌≡◌, ℕ, Bool, List, Option, None}
 use Rattle.drill.specs.Written.{RunsDrill}
 use Rattle.drill.specs.declared.writing.DrillEnd.{DrillEnd}
 use Rattle.jk_cli.specs.declared.order.Order.{Order}
 use Rattle.jk_cli.specs.declared.order.Order.TheVariants as order
-use Rattle.jk_server.specs.Commands.{command_side, CommandSide, CommandTells, Contains, format_text, DoesServe, wants_by}
+use Rattle.jk_server.specs.Commands.{command_side, CommandSide, CommandTells, Contains, format_text, DoesServe, HandsOnSite, wants_by}
 use Rattle.gear_parts.specs.Wants.{container_wants}
 use Rattle.gear_parts.specs.Worlds.{Tells}
 use Rattle.jk_server.specs.declared.orders.ends.CommandEnd.{CommandEnd}
 use Rattle.site_reports.specs.Readings.{CommandOutside, OfFiles}
+use Rattle.site_reports.specs.declared.found.SiteFound.{SiteFound}
 use Rattle.jk_commands.specs.Ends.{jkd_end, of_drill}
 use Rattle.jk_commands.specs.declared.ends.EndOf.{EndOf}
 
@@ -45,3 +46,8 @@ DoesOrder told outside other s n ended = ⊥
 abbrev pub DoesAsked : {F O W G C S Y X Z L : Type 0} → CommandTells F O W G C S Y X Z → Order → (before after : F × O × W) → EndOf L → Type 0
 DoesAsked told o before after ended =
     OfFiles (told.files before.0) (λ outside. DoesOrder told.world outside o (command_side told before) (command_side told after) ended)
+
+-- What such an order hands on of a site, by the status with which it ended: `serve` what it refused, and the others nothing.
+abbrev pub HandsOnOrder : (files : Option (List (List ℕ × List ℕ))) → Order → (status : ℕ) → Option SiteFound → Type 0
+HandsOnOrder files (order.Serve o) status site = HandsOnSite files o status site
+HandsOnOrder files other status site = site ≡ None

@@ -4,7 +4,7 @@ ghost use Rattle.jk_io.specs.Told.{Rose};
 ghost use Rattle.plain_commands.specs.Endings.{plain_side, told_outside};
 ghost use Rattle.plain_commands.specs.Plain.{InputIsDue};
 ghost use Rattle.jk_server.specs.Commands.{telling};
-ghost use Rattle.jk_commands.specs.Commands.{DoesAsked};
+ghost use Rattle.jk_commands.specs.Commands.{DoesAsked, HandsOnOrder};
 ghost use Rattle.jk_commands.specs.Ends.{status_of};
 ghost use Rattle.jk_commands.specs.Orders.{IfPlain, IfServed, IsNoCommand, reads_files};
 ghost use Rattle.jk_commands.specs.Plain.{EndsPlain};
@@ -14,7 +14,7 @@ use drill::{DrillOrder, write_drill};
 use gear_parts::{ToldWorld, World};
 use jk_cli::{Order, WordsError};
 use jk_io::{Door, Files, Sink, Source};
-use jk_server::{ContainerOrder, GearOrder, contain, serve};
+use jk_server::{ContainerOrder, GearOrder, ServeRun, contain, serve};
 use plain_commands::{PlainRun, run_plain};
 use site_reports::SiteFound;
 use std::alloc::Global;
@@ -25,7 +25,7 @@ use std::thread::Threads;
 pub fn let_go<T: Drop>(_it: T) {}
 
 /// Does the command that was read of the words, by `read_words`, and answers how it ended; a plain command that judged the files
-/// of a site also what it found of them.
+/// of a site also what it found of them, and `serve` where one of them is refused.
 pub fn run_jkd<F: Files, S: Source, O: Sink, W: World, R: Threads + Wait + Sync>(
     rt: &R,
     alloc: Global,
@@ -40,6 +40,9 @@ where
     // An order that asks for workers or threads: `serve`, `container` and `drill`. Its input isn't looked at.
     ensures serves { IfServed asked.now (λ o. DoesAsked (telling F.Files O.Meanings ⟦<W as ToldWorld>⟧.told)
         o (files.old, out.old, world.old) (files.new, out.new, world.new) result.0) }
+
+    // Of files that `serve` refused what it found of them is handed on; the others have no site.
+    ensures refused { IfServed asked.now (λ o. HandsOnOrder (F.files files.old) o (status_of result.0) result.1) }
 
     // Any other order: a plain command, or none. The world isn't asked.
     ensures plain { IfPlain asked.now (λ o. let at = plain_side F.Files S.Meanings O.Meanings in
@@ -64,10 +67,10 @@ where
     ensures wanting { status_of result.0 ≡ 6 → O.faults out.new ≡ O.faults out.old }
 {
     match asked {
-        Ok(Order::Serve(order)) => (
-            EndOf::from(serve(rt, alloc, order, files, out, world)),
-            None,
-        ),
+        Ok(Order::Serve(order)) => {
+            let ServeRun { end, refused } = serve(rt, alloc, order, files, out, world);
+            (EndOf::from(end), refused)
+        }
         Ok(
             Order::Container {
                 route,

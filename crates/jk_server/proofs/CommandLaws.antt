@@ -1,15 +1,18 @@
 -- How a command that asks for workers ends where a gear is refused or memory is wanted.
-use Rattle.std.proofs.Common.{ℕ, ◌≡◌, ◌+◌, ◌<◌, ◌≤◌, List, [], length, None, Err, inl, inr, refl, sym, ◌∙◌, subst, arith, lit≤}
+use Rattle.std.proofs.Common.{ℕ, ◌≡◌, ◌+◌, ◌<◌, ◌≤◌, List, [], ◌∷◌, length, Option, Some, None, Err, inl, inr, refl, sym, ◌∙◌, subst, arith, lit≤}
 use Rattle.jk_io.specs.Told.{appended, HasCause}
 use Rattle.jk_io.specs.declared.failures.IoError.{IoError}
 use Rattle.jk_io.specs.declared.failures.IoError.TheVariants as io
 use Rattle.ajp_container.specs.declared.app_config.AppConfig.{AppConfig}
 use Rattle.site_reports.specs.Readings.{CommandOutside}
-use Rattle.jk_server.specs.Commands.{CommandSide, ContainsLinks, KeepsOutput, LacksLog, RunsContainer, ServesFiles, Unread, Works, NoGear, NoRoom}
+use Rattle.site_reports.specs.Sites.{IsFoundRefused}
+use Rattle.site_reports.specs.declared.found.AcceptedSite.{AcceptedSite}
+use Rattle.site_reports.specs.declared.found.SiteFound.{SiteFound}
+use Rattle.jk_server.specs.Commands.{CommandSide, ContainsLinks, Failed, HandsOn, KeepsOutput, LacksLog, RunsContainer, ServesFiles, Unjudged, Unread, Works, NoGear, NoRoom}
 use Rattle.request_log.specs.declared.format.Part.{Part as FormatPart}
-use Rattle.jk_server.specs.Ends.{end_by}
+use Rattle.jk_server.specs.Ends.{end_by, status_of}
 use Rattle.gear_parts.specs.Wants.{GearWants}
-use Rattle.gear_parts.specs.Worlds.{HandsAndTakes, RefusesGear, Tells, WorldSide}
+use Rattle.gear_parts.specs.Worlds.{HandsAndTakes, RefusesGear, shown_to, Tells, WorldSide}
 use Rattle.jk_server.specs.declared.orders.ends.CommandEnd.{CommandEnd}
 use Rattle.jk_server.specs.declared.orders.ends.CommandEnd.TheVariants as end
 use Rattle.gear_parts.proofs.WorldLaws.{all_given, few_out, nothing_passed, then_back}
@@ -91,3 +94,26 @@ still_taken s m n gears taken handed back out faults = record {
   counted = omega (arith, taken.counted, out);
   no_fewer = omega (arith, taken.no_fewer, faults);
 }
+
+-- a world of these parts
+abbrev side_of : {G : Type 0} → (handed back : Option (List G)) → (out : ℕ) → (shown : Option (List AcceptedSite)) → (faults : ℕ) → WorldSide G
+side_of handed back out shown faults = record { handed = handed; back = back; out = out; shown = shown; faults = faults }
+
+-- a world that was shown a site, of which nothing else changed
+pub shown_side : {G : Type 0} (s m : WorldSide G) (site : AcceptedSite) → m.handed ≡ s.handed → m.back ≡ s.back → m.out ≡ s.out → m.shown ≡ appended s.shown (site ∷ [])
+    → m.faults ≡ s.faults → m ≡ shown_to s site
+shown_side s m site handed back out shown faults =
+    let same : side_of m.handed m.back m.out m.shown m.faults ≡ shown_to s site = rw (handed, back, out, shown, faults) refl in
+    same
+
+-- by an error of the files nothing is refused
+pub unread_hands_on : {L : Type 0} (outside : CommandOutside) (workers map text : List ℕ) (e : IoError) (ended : CommandEnd L) (site : Option SiteFound)
+    → ended ≡ end_by e → site ≡ None → HandsOn outside workers map text (status_of ended) site
+unread_hands_on outside workers map text io.Failed ended site is none = rw (is, none) (Failed (inl refl))
+unread_hands_on outside workers map text io.NoMemory ended site is none = rw (is, none) (Failed (inr refl))
+
+-- files that are refused
+pub refused_hands_on : (outside : CommandOutside) (workers map text : List ℕ) (status : ℕ) (site : Option SiteFound)
+    → IsFoundRefused outside workers map site → HandsOn outside workers map text status site
+refused_hands_on outside workers map text status None is = Unjudged is
+refused_hands_on outside workers map text status (Some f) is = is

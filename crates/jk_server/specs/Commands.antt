@@ -1,6 +1,6 @@
 -- `serve` and `container`, by what each does with the outside and how it ends. Read this first; a run of the one is in
 -- specs/Runs.antt, and one of the other in gear_parts' specs/Containers.antt.
-use Rattle.std.specs.Prelude.{◌≡◌, ℕ, ◌-◌, ◌≤◌, ◌⊎◌, min, max, List, length, map, Option, Some, None, codes}
+use Rattle.std.specs.Prelude.{◌≡◌, ℕ, true, ◌-◌, ◌≤◌, ◌⊎◌, min, max, List, [], ◌∷◌, length, map, Option, Some, None, codes}
 use Rattle.std.specs.List.{All, AllZip}
 use Rattle.client_session.specs.Requests.{visit}
 use Rattle.ajp_container.specs.declared.worker_ends.ContainerWorker.{ContainerWorker}
@@ -9,7 +9,8 @@ use Rattle.jk_io.specs.Told.{appended, PutsFront, Rose}
 use Rattle.jk_io.specs.declared.traits.streams.Meanings.{Ghosts}
 use Rattle.jk_io.specs.declared.traits.surroundings.Files.{Ghosts as FilesGhosts}
 use Rattle.ajp_container.specs.declared.app_config.AppConfig.{AppConfig}
-use Rattle.site_reports.specs.Readings.{CommandOutside, OfFiles}
+use Rattle.site_reports.specs.Found.{is_refused}
+use Rattle.site_reports.specs.Readings.{CommandOutside, File, OfFiles, StopsLong}
 use Rattle.site_reports.specs.Reports.{RefusesSite}
 use Rattle.site_config.specs.declared.config.Config.{Config}
 use Rattle.site_mounts.specs.declared.rule.Rule.{Rule}
@@ -22,14 +23,16 @@ use Rattle.jk_server.specs.RunTells.{logging}
 use Rattle.jk_server.specs.declared.runs.ends.Closing.{Closing}
 use Rattle.jk_server.specs.declared.part.WorkerEnd.{WorkerEnd}
 use Rattle.jk_server.specs.Ends.{end_of_container, end_of_run, returned}
-use Rattle.site_reports.specs.Sites.{IsSite}
+use Rattle.site_reports.specs.Sites.{IsFound}
 use Rattle.gear_parts.specs.Wants.{AreSuited, GearWants, wants, wants_of}
-use Rattle.gear_parts.specs.Worlds.{HandsAndTakes, IsMade, RefusesGear, Tells, WorldSide}
+use Rattle.gear_parts.specs.Worlds.{HandsAndTakes, IsMade, RefusesGear, shown_to, Tells, WorldSide}
 use Rattle.jk_server.specs.declared.orders.ends.CommandEnd.{CommandEnd}
 use Rattle.jk_server.specs.declared.orders.ends.CommandEnd.TheVariants as end
 use Rattle.gear_parts.specs.declared.order.GearOrder.{GearOrder}
 use Rattle.jk_server.specs.declared.orders.container.ContainerOrder.{ContainerOrder}
-use Rattle.site_reports.specs.declared.site.ReadSite.{ReadSite}
+use Rattle.site_reports.specs.declared.found.AcceptedSite.{AcceptedSite}
+use Rattle.site_reports.specs.declared.found.SiteFound.{SiteFound}
+use Rattle.site_reports.specs.declared.found.SiteFound.TheVariants as found
 
 -- The outside of a command at a moment: how often the files failed, what the output was sent and how often it failed, and the world.
 pub record CommandSide (G : Type 0) : Type 0 where
@@ -180,12 +183,12 @@ pub record LacksFiles {G L : Type 0} (s n : CommandSide G) (ended : CommandEnd L
   pub output : KeepsOutput s n
   pub world : n.world ≡ s.world
 
--- The files are a site, for which this many workers were wanted. Nothing was written.
+-- The files are a site. The world was shown it and no other, and then this many workers were wanted. Nothing was written.
 pub record ServesSite {W G C S O X Z L : Type 0} (told : Tells W G C S O X Z) (outside : CommandOutside) (workers map : List ℕ) (format : List FormatPart) (threads : ℕ) (wanted : GearWants) (s n : CommandSide G) (ended : CommandEnd L) : Type 0 where
-  pub cfg : Config
-  pub rules : List Rule
-  pub site : IsSite outside workers map cfg rules
-  pub works : Works threads (RunsLogged told cfg rules format threads wanted) s.world n.world ended
+  pub site : AcceptedSite
+  pub is : IsFound outside workers map (found.Site site)
+  pub shown : n.world.shown ≡ appended s.world.shown (site ∷ [])
+  pub works : Works threads (RunsLogged told site.workers.config site.rules format threads wanted) (shown_to s.world site) n.world ended
   pub output : KeepsOutput s n
 
 -- A site of these files is served, with logs of this format where logs are wanted.
@@ -221,6 +224,19 @@ pub data DoesServe {W G C S O X Z L : Type 0} (told : Tells W G C S O X Z) (outs
   Formatted : (format : List FormatPart) → IsFormat text format → ServesFiles told outside workers map format threads wanted s n ended
       → DoesServe told outside workers map text threads wanted s n ended
 
+-- Why no site is handed on: a read failed or memory was wanted, the format is refused, a file is too long to be judged, or both are
+-- accepted.
+pub data RefusesNone (outside : CommandOutside) (workers map text : List ℕ) (status : ℕ) : Type 0 where
+  Failed : (status ≡ 4) ⊎ (status ≡ 6) → RefusesNone outside workers map text status
+  Unformed : (at : ℕ) → IsRefusedFrom text at → RefusesNone outside workers map text status
+  Unjudged : StopsLong outside (File workers ∷ File map ∷ []) → RefusesNone outside workers map text status
+  Accepted : (site : AcceptedSite) → IsFound outside workers map (found.Site site) → RefusesNone outside workers map text status
+
+-- What `serve` hands on beside its end: of files that are refused what it found of them.
+abbrev pub HandsOn : CommandOutside → (workers map text : List ℕ) → (status : ℕ) → Option SiteFound → Type 0
+HandsOn outside workers map text status None = RefusesNone outside workers map text status
+HandsOn outside workers map text status (Some f) = IsFound outside workers map f × (is_refused f ≡ true)
+
 -- The application of a container of this route: it asks for no secret, and a packet has at most 8,192 bytes.
 pub record IsAppOf (route : List ℕ) (app : AppConfig) : Type 0 where
   pub name : app.route ≡ route
@@ -245,9 +261,9 @@ abbrev pub wants_by : ServeOrder → GearWants
 wants_by order = wants order.address order.clients order.journal order.log order.limits order.control order.grace
 
 -- The workers of a site were wanted.
-abbrev pub WorksSite : {W G C S O X Z L : Type 0} → Tells W G C S O X Z → ServeOrder → List FormatPart → ReadSite → (before after : W) → CommandEnd L → Type 0
+abbrev pub WorksSite : {W G C S O X Z L : Type 0} → Tells W G C S O X Z → ServeOrder → List FormatPart → AcceptedSite → (before after : W) → CommandEnd L → Type 0
 WorksSite told order format site before after ended =
-    Works order.threads (RunsLogged told site.cfg site.map format order.threads (wants_by order)) (told.world before) (told.world after) ended
+    Works order.threads (RunsLogged told site.workers.config site.rules format order.threads (wants_by order)) (told.world before) (told.world after) ended
 
 -- The workers of a container were wanted.
 abbrev pub WorksContainer : {W G C S O X Z L : Type 0} → Tells W G C S O X Z → AppConfig → (threads : ℕ) → GearOrder → (before after : W) → CommandEnd L → Type 0
@@ -264,3 +280,8 @@ abbrev pub ServesOrder : {F O W G C S Y X Z L : Type 0} → CommandTells F O W G
 ServesOrder told order before after ended =
     OfFiles (told.files before.0) (λ outside. DoesServe told.world outside order.workers order.map (format_text order.format) order.threads (wants_by order)
     (command_side told before) (command_side told after) ended)
+
+-- What `serve` hands on of its files, whatever the input.
+abbrev pub HandsOnSite : (files : Option (List (List ℕ × List ℕ))) → ServeOrder → (status : ℕ) → Option SiteFound → Type 0
+HandsOnSite files order status site =
+    OfFiles files (λ outside. HandsOn outside order.workers order.map (format_text order.format) status site)

@@ -2,7 +2,7 @@
 //!
 //! Source: own rules for the causes of a worker's end, what is done between two sessions, the order of a run's closing, and the
 //! statuses of both orders (docs/DECISIONS.md).
-//! Contract: `serve`, clause `serves`, and `contain`, clause `contains`, over a world that hands out gears; below them
+//! Contract: `serve`, clauses `serves` and `refused`, and `contain`, clause `contains`, over a world that hands out gears; below them
 //! `serve_gears`, and `contain_gears` of gear_parts, clauses `ran` and `unasked`, for gears; `serve_part`, clauses `served`, `fit`
 //! and `parts`, for a part; `run_container` of ajp_container for containers. Read first: specs/Commands.antt; then
 //! specs/Runs.antt, over specs/Served.antt and client_session's specs/Sessions.antt; specs/Closings.antt, and gear_parts'
@@ -25,7 +25,7 @@ pub use ajp_container::{
 pub use gear_parts::{ContainerRun, GearOrder, Part, contain_gears};
 pub use orders::container::{ContainerOrder, MOST_ROUTE_BYTES, contain};
 pub use orders::ends::CommandEnd;
-pub use orders::serve::{cut_at, serve};
+pub use orders::serve::{ServeRun, cut_at, serve};
 pub use part::{WorkerEnd, WorkerEndList};
 pub use runs::ends::{Closing, SiteRun};
 pub use runs::parts::{SitePlan, WatchPlan};

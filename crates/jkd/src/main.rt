@@ -9,20 +9,18 @@
 //! Errors: the statuses 1 to 7, as `run_jkd` gives them.
 #![tactic(auto)]
 
-mod ahead_files;
 mod arguments;
 mod demo;
 mod demo_threads;
-mod effects;
 mod marked_sink;
 mod outside;
 mod telling;
+mod telling_world;
 mod write_sink;
 
 use arguments::{WordList, WordsError, read_words};
 use demo::DEMO_THREADS;
 use demo_threads::{Demo, demo_of, end_of, run_part, send_end};
-use effects::tell_effects;
 use gear_worlds::RealWorld;
 use jk_cli::read_words as read_order;
 use jk_commands::{NO_COMMAND, NO_MEMORY, OUTPUT_FAULT, let_go};
@@ -36,6 +34,7 @@ use std::rt::{Env, Files};
 use std::sync::Wait;
 use std::thread;
 use std::time::Clock;
+use telling_world::{SiteTeller, TellingWorld};
 
 fn print_text<O: Sink>(out: &mut O, text: &[u8]) -> u8 {
     match write_all(out, text) {
@@ -135,9 +134,10 @@ fn main(rt: HostRuntime) -> ExitCode {
             return ended(&rt, end_of(&rt, &ends));
         }
     }
-    let ahead = tell_effects(&rt, &asked, rt.stderr());
-    let mut world = RealWorld::new(&rt, threads_of(&asked));
-    let status = do_outside(&rt, words, &asked, ahead, &mut world, rt.stderr());
+    let teller = SiteTeller::of(&asked, rt.stderr());
+    let mut world = TellingWorld::new(RealWorld::new(&rt, threads_of(&asked)), teller);
+    let status = do_outside(&rt, words, &asked, &mut world, rt.stderr());
+    let world = world.into_world();
     let_go(asked);
     tell_trouble(&rt, world.trouble());
     end_world(world, status);

@@ -2,13 +2,11 @@
 ghost use Rattle.std.specs.Prelude.{◌≡◌, ◌↔◌};
 ghost use Rattle.plain_commands.specs.Endings.{plain_side};
 ghost use Rattle.jk_server.specs.Commands.{telling};
-ghost use Rattle.jk_commands.specs.Commands.{DoesAsked};
+ghost use Rattle.jk_commands.specs.Commands.{DoesAsked, HandsOnOrder};
 ghost use Rattle.jk_commands.specs.Ends.{status_of};
 ghost use Rattle.jk_commands.specs.Orders.{IfPlain, IfServed, IsNoCommand};
 ghost use Rattle.jk_commands.specs.Plain.{EndsPlain};
 
-use crate::ahead_files::AheadFiles;
-use crate::effects::ReadAhead;
 use crate::telling::{asks_stop, reason, tell};
 use gear_parts::ToldWorld;
 use gear_worlds::{Trouble, World};
@@ -56,6 +54,7 @@ where
     ensures status { result.status ≡ status_of result.end }
     ensures serves { IfServed asked.now (λ o. DoesAsked (telling F.Files O.Meanings ⟦<W as ToldWorld>⟧.told)
         o (files.old, out.old, world.old) (files.new, out.new, world.new) result.end) }
+    ensures refused { IfServed asked.now (λ o. HandsOnOrder (F.files files.old) o result.status result.site) }
     ensures plain { IfPlain asked.now (λ o. let s = plain_side F.Files S.Meanings O.Meanings in
         EndsPlain o (s files.old input.old out.old) (s files.new input.new out.new) result.end result.site) }
     ensures no_command { (result.end ≡ EndOf.Status 2) ↔ IsNoCommand asked.now }
@@ -63,16 +62,6 @@ where
     let (end, site) = run_jkd(rt, rt.alloc(), asked, files, input, out, world);
     let status = end.status();
     OrderEnd { end, site, status }
-}
-
-/// What is told of the files of a site: what the command found, or what was found ahead of serving.
-fn told_site(found: Option<SiteFound>, ahead: Option<SiteFound>) -> Option<SiteFound> {
-    if found.is_some() {
-        let_go(ahead);
-        return found;
-    }
-    let_go(found);
-    ahead
 }
 
 /// How a command ended: the word that names it, its status, what it read of the input, and the site that it judged.
@@ -106,33 +95,21 @@ fn tell_ended<'x, E: Write + Drop>(
     tell(alloc, err, &ended);
 }
 
-/// Does the command in this world, over the system's files and streams, of which some were read ahead. Tells a person of it, and
-/// answers its status.
+/// Does the command in this world, over the system's files and streams. Tells a person of it, and answers its status.
 pub(crate) fn do_outside<
     W: World,
     E: Write + Drop,
     R: Print + Input + SystemFiles + Net + AllocGlobal + Threads + Wait + Sync,
->(
-    rt: &R,
-    words: &[Bytes],
-    asked: &Result<Order, WordsError>,
-    ahead: ReadAhead,
-    world: &mut W,
-    err: E,
-) -> u8
+>(rt: &R, words: &[Bytes], asked: &Result<Order, WordsError>, world: &mut W, err: E) -> u8
 where
     <W::D as Door>::L: Send,
 {
-    let ReadAhead {
-        files: ahead,
-        refused,
-    } = ahead;
     let files = if asks_stop(asked) {
         RealFiles::sockets(rt)
     } else {
         RealFiles::new(rt)
     };
-    let mut files = KeptFiles::new(rt.alloc(), AheadFiles::new(files, ahead));
+    let mut files = KeptFiles::new(rt.alloc(), files);
     let mut input = CountedInput::new(StdIn::new(rt.reader()));
     let mut out = StdOut::new(rt);
     let OrderEnd { end, site, status } = do_in(rt, asked, &mut files, &mut input, &mut out, world);
@@ -141,7 +118,7 @@ where
         command: command_asked(asked),
         status,
         input: input.seen(),
-        site: told_site(site, refused),
+        site,
     };
     if let Ok(reason) = reason(rt, asked, files.reads()) {
         tell_ended(

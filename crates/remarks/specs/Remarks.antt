@@ -60,11 +60,6 @@ remarks_of effects workers map (found.MapRefused r) ps =
 abbrev pub AreRemarks : (effects : Bool) → (workers map : List ℕ) → SiteFound → (out : List ℕ) → Type 0
 AreRemarks effects workers map f out = (ps : List Property) × Lines f ps × (out ≡ remarks_of effects workers map f ps)
 
--- what in both files has no effect, where both are accepted, and nothing where one is refused
-abbrev pub AreEffects : (workers map : List ℕ) → SiteFound → (out : List ℕ) → Type 0
-AreEffects workers map (found.Site s) out = AreRemarks true workers map (found.Site s) out
-AreEffects workers map other out = out ≡ []
-
 -- of a workers.properties of this configuration, and a map of these rules
 abbrev pub effects_over : Config → (workers map : List ℕ × List ℕ) → List Rule → List Property → List ℕ
 effects_over c workers map rules ps = workers_remarks true workers.0 c ps ++ rules_remarks true c map rules

@@ -15,7 +15,7 @@ use crate::kinds::{KindTable, kind_table, redirect_table};
 use crate::notices::{LineTables, put_notices};
 use crate::refused::{Judge, put_refused};
 use crate::remark_out::RemarkOut;
-use crate::site_effects::put_site_effects;
+use crate::site_effects::effects_on;
 use crate::site_file::{SiteFile, SiteNames};
 use jk_io::{Bytes, IoError, Sink};
 use site_config::Config;
@@ -149,7 +149,7 @@ fn put_accepted<O: Sink + Drop>(
         (remarks_of effects names.now.workers.now names.now.map.now (found.Site site.now)) }
 {
     if effects {
-        put_site_effects(alloc, out, names, site)
+        effects_on(alloc, out, names, site)
     } else {
         Ok(())
     }

@@ -1,9 +1,9 @@
 //! Remarks on the lines of a site's two files that have no effect, where both are accepted.
 ghost use Rattle.std.specs.Prelude.{true};
 ghost use Rattle.site_reports.specs.declared.found.SiteFound.TheVariants as found;
-ghost use Rattle.remarks.specs.Added.{AddsFor, AddsSome};
+ghost use Rattle.remarks.specs.Added.{AddsFor};
 ghost use Rattle.remarks.specs.Again.{ReadsProperties};
-ghost use Rattle.remarks.specs.Remarks.{AreEffects, IsShortFile, as_file, effects_over, remarks_of};
+ghost use Rattle.remarks.specs.Remarks.{IsShortFile, as_file, effects_over, remarks_of};
 
 use crate::kinds::kind_table;
 use crate::map_effects::put_map_effects;
@@ -13,7 +13,7 @@ use crate::site_file::{SiteFile, SiteNames};
 use jk_io::{IoError, Sink};
 use site_config::Config;
 use site_mounts::UriMap;
-use site_reports::{AcceptedSite, SiteFound};
+use site_reports::AcceptedSite;
 use std::alloc::Global;
 
 /// Adds what has no effect in a workers.properties that gives this configuration, and in a map of these rules.
@@ -35,8 +35,8 @@ fn put_both<O: Sink + Drop>(
     put_map_effects(alloc, out, &table, map, rules)
 }
 
-/// Adds what has no effect in files that are accepted.
-pub(crate) fn put_site_effects<O: Sink + Drop>(
+/// Adds what has no effect in the files of a site, both of which are accepted.
+pub fn effects_on<O: Sink + Drop>(
     alloc: Global,
     out: &mut RemarkOut<O>,
     names: &SiteNames<'_>,
@@ -61,19 +61,4 @@ pub(crate) fn put_site_effects<O: Sink + Drop>(
         &workers,
         &map,
     )
-}
-
-/// Adds what in a site's files has no effect, where both are accepted. Of files that are refused nothing is said.
-pub fn effects_on<O: Sink + Drop>(
-    alloc: Global,
-    out: &mut RemarkOut<O>,
-    names: &SiteNames<'_>,
-    found: &SiteFound,
-) -> Result<(), IoError>
-    ensures { AddsSome result out.old out.new (AreEffects names.now.workers.now names.now.map.now found.now) }
-{
-    match found {
-        SiteFound::Site(site) => put_site_effects(alloc, out, names, site),
-        SiteFound::Workers(_) | SiteFound::WorkersRefused(_) | SiteFound::MapRefused(_) => Ok(()),
-    }
 }

@@ -1,29 +1,32 @@
 -- The site of two files, and what they are judged to be.
-use Rattle.std.specs.Prelude.{◌≡◌, ℕ, true, List, [], ◌∷◌, Ok}
-use Rattle.site_reports.specs.Readings.{CommandOutside, File, AreRead}
-use Rattle.site_config.specs.declared.config.Config.{Config}
+use Rattle.std.specs.Prelude.{◌≡◌, ℕ, true, List, [], ◌∷◌, Option, Some, None, IsSomeAnd}
+use Rattle.site_reports.specs.Readings.{CommandOutside, File, AreRead, StopsLong}
+use Rattle.site_reports.specs.Found.{FindsSite, is_refused}
 use Rattle.site_reports.specs.Reports.{RefusesSite, ReportsSite}
-use Rattle.site_mounts.specs.Lines.{read_text}
-use Rattle.site_mounts.specs.declared.rule.Rule.{Rule}
-use Rattle.site_workers.specs.Site.{IsConfig}
+use Rattle.site_reports.specs.declared.found.SiteFound.{SiteFound}
+use Rattle.site_reports.specs.declared.found.SiteFound.TheVariants as found
 use Rattle.site_reports.specs.declared.reading.Judged.{Judged}
 use Rattle.site_reports.specs.declared.reading.Judged.TheVariants as judged
 
--- The site of the files WORKERS and MAP: each is read whole before one is judged, and this is the configuration of the one
--- and these are the rules of the other.
-pub record IsSite (outside : CommandOutside) (workers map : List ℕ) (cfg : Config) (rules : List Rule) : Type 0 where
+-- What the files WORKERS and MAP are found to be: each is read whole before one is judged, and these texts give just what is found.
+pub record IsFound (outside : CommandOutside) (workers map : List ℕ) (f : SiteFound) : Type 0 where
   pub workers_text : List ℕ
   pub map_text : List ℕ
   pub read : AreRead outside (File workers ∷ File map ∷ []) (workers_text ∷ map_text ∷ [])
-  pub config : IsConfig workers_text cfg
-  pub mounts : read_text cfg map_text ≡ Ok rules
+  pub finds : FindsSite workers_text map_text f
+
+-- the files of these names are refused by what is found of both, or one is too long to be judged
+abbrev pub IsFoundRefused : CommandOutside → (workers map : List ℕ) → Option SiteFound → Type 0
+IsFoundRefused outside workers map None = StopsLong outside (File workers ∷ File map ∷ [])
+IsFoundRefused outside workers map (Some f) = IsFound outside workers map f × (is_refused f ≡ true)
 
 -- two texts that were read
 abbrev pub Judges : (workers map : List ℕ) → Judged → Type 0
-Judges workers map (judged.Site site) = IsConfig workers site.cfg × (read_text site.cfg map ≡ Ok site.map)
-Judges workers map (judged.Refused line) = ReportsSite workers map line true
+Judges workers map (judged.Site site) = FindsSite workers map (found.Site site)
+Judges workers map (judged.Refused r) =
+    ReportsSite workers map r.line true × IsSomeAnd r.found (λ f. FindsSite workers map f × (is_refused f ≡ true))
 
 -- the files of these names
 abbrev pub IsJudgedSite : CommandOutside → (workers map : List ℕ) → Judged → Type 0
-IsJudgedSite outside workers map (judged.Site site) = IsSite outside workers map site.cfg site.map
-IsJudgedSite outside workers map (judged.Refused line) = RefusesSite outside workers map line
+IsJudgedSite outside workers map (judged.Site site) = IsFound outside workers map (found.Site site)
+IsJudgedSite outside workers map (judged.Refused r) = RefusesSite outside workers map r.line × IsFoundRefused outside workers map r.found

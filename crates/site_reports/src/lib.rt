@@ -18,7 +18,6 @@ mod member_line;
 mod path_lines;
 mod reading;
 mod report;
-mod site;
 mod words;
 
 pub use books::{books_of, member_counts};
@@ -26,6 +25,5 @@ pub use config_text::put_config;
 pub use found::{AcceptedSite, AcceptedWorkers, RefusedMap, RefusedWorkers, SiteFound};
 pub use judging::{judge_site, judge_workers};
 pub use match_text::put_matches;
-pub use reading::{Judged, read_site};
+pub use reading::{Judged, RefusedSite, read_site};
 pub use report::{Report, refusal_text, report_config, report_matches, report_site};
-pub use site::ReadSite;

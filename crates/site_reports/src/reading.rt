@@ -1,23 +1,29 @@
 //! The two files of a site, read and judged.
-ghost use Rattle.std.specs.Prelude.{◌≡◌, ◌<◌, ◌≤◌, ℕ, List, Option, Some, length, codes, IfOk, IsOk, IfSome, IfNone, IsSomeAnd};
+ghost use Rattle.std.specs.Prelude.{◌≡◌, ◌<◌, ◌≤◌, ℕ, List, Option, Some, length, codes, IfOk, IsOk, IfSome, IfNone, IsSomeAnd, None};
 ghost use Rattle.jk_io.specs.Stored.{content_of};
 ghost use Rattle.jk_io.specs.Told.{HasCause};
 ghost use Rattle.site_reports.specs.Found.{FindsSite};
 ghost use Rattle.jk_io.specs.declared.whole_input.TheConstants.{MAX_INPUT_BYTES};
 ghost use Rattle.site_reports.specs.Sites.{IsJudgedSite, Judges};
 
-use crate::found::{AcceptedSite, AcceptedWorkers, SiteFound};
+use crate::found::{AcceptedSite, SiteFound};
 use crate::judging::judge_site;
 use crate::report::refusal_text;
-use crate::site::ReadSite;
 use jk_io::{Bytes, FileError, Files, IoError, NoMemory};
 use std::alloc::Global;
 
-/// What the files of a site are: a site, or the line that refuses them.
+/// Files that are refused: the line that says so, and what was found of them; nothing where one is too long to be judged.
+#[derive(Drop)]
+pub struct RefusedSite {
+    pub line: Bytes,
+    pub found: Option<SiteFound>,
+}
+
+/// What the files of a site are judged to be.
 #[derive(Drop)]
 pub enum Judged {
-    Site(ReadSite),
-    Refused(Bytes),
+    Site(AcceptedSite),
+    Refused(RefusedSite),
 }
 
 /// A file's text; none where it has more than 67,108,864 bytes.
@@ -37,16 +43,14 @@ fn text_of<F: Files>(alloc: Global, files: &mut F, name: &Bytes) -> Result<Optio
     }
 }
 
-/// The site that two accepted files give.
-fn site_of(site: AcceptedSite) -> ReadSite
-    ensures { (result.cfg ≡ site.workers.config) × (result.map ≡ site.rules) }
+/// Files that were found to be refused, by this line.
+fn refused(found: SiteFound, line: Bytes) -> Judged
+    ensures { result ≡ Judged.Refused (record { line = line; found = Some found }) }
 {
-    let AcceptedSite { workers, rules, .. } = site;
-    let AcceptedWorkers { config, .. } = workers;
-    ReadSite {
-        cfg: config,
-        map: rules,
-    }
+    Judged::Refused(RefusedSite {
+        line,
+        found: Some(found),
+    })
 }
 
 /// What was found, as a site or as the line that refuses it.
@@ -54,14 +58,16 @@ fn judged_as(alloc: Global, found: SiteFound) -> Result<Judged, NoMemory>
     ensures { (workers map : List ℕ) → FindsSite workers map found → IfOk result (Judges workers map) }
 {
     match found {
-        SiteFound::Workers(_) => Ok(Judged::Refused(Bytes::new(alloc))),
-        SiteFound::Site(site) => Ok(Judged::Site(site_of(site))),
-        SiteFound::WorkersRefused(r) => Ok(Judged::Refused(refusal_text(
-            alloc, b"workers", r.line, r.code,
-        )?)),
-        SiteFound::MapRefused(r) => Ok(Judged::Refused(refusal_text(
-            alloc, b"map", r.line, r.code,
-        )?)),
+        SiteFound::Workers(workers) => Ok(refused(SiteFound::Workers(workers), Bytes::new(alloc))),
+        SiteFound::Site(site) => Ok(Judged::Site(site)),
+        SiteFound::WorkersRefused(r) => {
+            let line = refusal_text(alloc, b"workers", r.line, r.code)?;
+            Ok(refused(SiteFound::WorkersRefused(r), line))
+        }
+        SiteFound::MapRefused(r) => {
+            let line = refusal_text(alloc, b"map", r.line, r.code)?;
+            Ok(refused(SiteFound::MapRefused(r), line))
+        }
     }
 }
 
@@ -75,9 +81,12 @@ fn judge(alloc: Global, workers: Bytes, map: Bytes) -> Result<Judged, NoMemory>
 
 /// The answer to a text beyond the limit.
 fn too_long(alloc: Global) -> Result<Judged, NoMemory>
-    ensures { IfOk result (λ judged. judged ≡ Judged.Refused (codes "too long\n")) }
+    ensures { IfOk result (λ judged. judged ≡ Judged.Refused (record { line = codes "too long\n"; found = None })) }
 {
-    Ok(Judged::Refused(Bytes::from_slice(alloc, b"too long\n")?))
+    Ok(Judged::Refused(RefusedSite {
+        line: Bytes::from_slice(alloc, b"too long\n")?,
+        found: None,
+    }))
 }
 
 /// Reads both files of a site before it judges any of them.

@@ -1,10 +1,10 @@
 //! `serve`: clients served over the balancers of a site.
-ghost use Rattle.std.specs.Prelude.{◌≡◌, ◌≤◌, [], IsSome, Some, length};
+ghost use Rattle.std.specs.Prelude.{◌≡◌, ◌≤◌, [], IsSome, None, Some, length};
 ghost use Rattle.std.specs.Option.{option_copied};
 ghost use Rattle.jk_io.specs.Told.{HasCause};
 ghost use Rattle.request_log.specs.Formats.{refusal_line as line_of_refusal};
-ghost use Rattle.jk_server.specs.Commands.{cut_at, format_text as text_of_format, telling, wants_by, ServesOrder, WorksSite, WritesLine};
-ghost use Rattle.jk_server.specs.Ends.{end_of_run, returned};
+ghost use Rattle.jk_server.specs.Commands.{cut_at, format_text as text_of_format, telling, wants_by, HandsOnSite, ServesOrder, WorksSite, WritesLine};
+ghost use Rattle.jk_server.specs.Ends.{end_of_run, returned, status_of};
 ghost use Rattle.jk_server.specs.Watches.{watch_plan};
 ghost use Rattle.gear_parts.specs.Wants.{wants_of};
 ghost use Rattle.gear_parts.specs.Worlds.{HandsAndTakes, world_side};
@@ -18,11 +18,25 @@ use jk_cli::ServeOrder;
 use jk_io::{Bytes, Door, Files, IoError, NoMemory, Sink, write_all};
 use request_log::{Format, FormatError, read_format, refusal_line};
 use site_config::Config;
-use site_reports::{Judged, ReadSite, read_site};
+use site_reports::{AcceptedSite, Judged, RefusedSite, SiteFound, read_site};
 use std::alloc::Global;
 use std::marker::Brand;
 use std::sync::Wait;
 use std::thread::Threads;
+
+/// How `serve` ended, and what it found of its files, where one of them is refused.
+#[derive(Drop)]
+pub struct ServeRun {
+    pub end: CommandEnd<Brand>,
+    pub refused: Option<SiteFound>,
+}
+
+/// An end at which no file was found to be refused.
+fn none_refused(end: CommandEnd<Brand>) -> ServeRun
+    ensures { (result.end ≡ end) × (result.refused ≡ None) }
+{
+    ServeRun { end, refused: None }
+}
 
 /// The format of the logs, as it is written.
 fn format_text(text: &Option<Bytes>) -> &[u8]
@@ -78,8 +92,9 @@ fn refuse<O: Sink>(out: &mut O, line: &Bytes) -> CommandEnd<Brand>
 /// Gives the gears of a run back, unless its closing wanted memory.
 fn give_by<W: World>(world: &mut W, closing: &Closing<Brand>, gears: Vec<GearOf<W>>)
     requires out { length (returned closing.now gears.items) ≤ W.out world.old }
-    ensures { let at = world_side W.World in
+    ensures given { let at = world_side W.World in
         HandsAndTakes (at world.old) (at world.new) [] (returned closing.now gears.items) }
+    ensures unshown { W.shown world.new ≡ W.shown world.old }
 {
     match closing {
         Closing::NoMemory => {}
@@ -93,6 +108,7 @@ fn settle<W: World>(world: &mut W, run: SiteRun<Brand, GearOf<W>>) -> CommandEnd
     ensures given { let at = world_side W.World in
         HandsAndTakes (at world.old) (at world.new) [] (returned run.closing run.gears.items) }
     ensures ended { result ≡ end_of_run run.workers run.closing }
+    ensures unshown { W.shown world.new ≡ W.shown world.old }
 {
     let SiteRun {
         workers,
@@ -126,16 +142,17 @@ fn serve_site<W: World, R: Threads + Wait + Sync>(
     alloc: Global,
     order: &ServeOrder,
     format: &Format,
-    site: &ReadSite,
+    site: &AcceptedSite,
     world: &mut W,
 ) -> CommandEnd<Brand>
 where
     <W::D as Door>::L: Send,
-    ensures { WorksSite ⟦<W as ToldWorld>⟧.told
+    ensures works { WorksSite ⟦<W as ToldWorld>⟧.told
         order.now format.now site.now world.old world.new result }
+    ensures unshown { W.shown world.new ≡ W.shown world.old }
 {
     let threads = order.threads.get();
-    let asked = gear_order(order, &site.cfg);
+    let asked = gear_order(order, &site.workers.config);
     let gears = match take_gears(alloc, world, threads, &asked) {
         Ok(gears) => gears,
         Err(error) => return end_by(error),
@@ -145,8 +162,8 @@ where
         Err(error) => return end_by(error),
     };
     let plan = SitePlan {
-        cfg: &site.cfg,
-        map: &site.map,
+        cfg: &site.workers.config,
+        map: &site.rules,
         cut: cut_at(order.cut),
         format,
         watch: watch_plan(order.watch, order.idle),
@@ -160,7 +177,8 @@ where
     }
 }
 
-/// `serve`, over the files WORKERS and MAP. A format that is none is refused before any file is read.
+/// `serve`, over the files WORKERS and MAP. A format that is none is refused before any file is read. The world is shown the site
+/// before a gear is asked for; of files that are refused what was found is handed on.
 pub fn serve<F: Files, O: Sink, W: World, R: Threads + Wait + Sync>(
     rt: &R,
     alloc: Global,
@@ -168,20 +186,27 @@ pub fn serve<F: Files, O: Sink, W: World, R: Threads + Wait + Sync>(
     files: &mut F,
     out: &mut O,
     world: &mut W,
-) -> CommandEnd<Brand>
+) -> ServeRun
 where
     <W::D as Door>::L: Send,
     ensures serves { ServesOrder (telling F.Files O.Meanings ⟦<W as ToldWorld>⟧.told)
-        order.now (files.old, out.old, world.old) (files.new, out.new, world.new) result }
+        order.now (files.old, out.old, world.old) (files.new, out.new, world.new) result.end }
+    ensures refused { HandsOnSite (F.files files.old) order.now (status_of result.end) result.refused }
 {
     let format = match read_format(alloc, format_text(&order.format)) {
         Ok(format) => format,
-        Err(FormatError::BadFormat { at }) => return refuse_format(alloc, at, out),
-        Err(FormatError::NoMemory) => return CommandEnd::Status(NO_MEMORY),
+        Err(FormatError::BadFormat { at }) => return none_refused(refuse_format(alloc, at, out)),
+        Err(FormatError::NoMemory) => return none_refused(CommandEnd::Status(NO_MEMORY)),
     };
     match read_site(alloc, files, &order.workers, &order.map) {
-        Ok(Judged::Site(site)) => serve_site(rt, alloc, order, &format, &site, world),
-        Ok(Judged::Refused(line)) => refuse(out, &line),
-        Err(error) => end_by(error),
+        Ok(Judged::Site(site)) => {
+            world.show_site(alloc, &site);
+            none_refused(serve_site(rt, alloc, order, &format, &site, world))
+        }
+        Ok(Judged::Refused(RefusedSite { line, found })) => ServeRun {
+            end: refuse(out, &line),
+            refused: found,
+        },
+        Err(error) => none_refused(end_by(error)),
     }
 }

@@ -8,6 +8,7 @@ gears-init g c = record {
   taken = none_yet _ _ _ _ _ (omega (arith, c.requires.none, c.args.gears.now.ok.0));
   count = c.requires.none;
   steady = refl;
+  unshown = refl;
   room = c.requires.room;
 }
 
@@ -16,6 +17,7 @@ gears-preserved g c = record {
   taken = taken_on _ _ _ _ _ _ _ _ _ c.gears.invariant.taken (omega (arith, c.gears.invariant.count, c.gears.gears.ok.0)) c.in_ok-take_gear.ensures.ok;
   count = omega (arith, c.gears.invariant.count, c.in_ok-take_gear.ensures.room.0);
   steady = c.in_ok-take_gear.ensures.counts.steady refl ∙ c.gears.invariant.steady;
+  unshown = c.in_ok-take_gear.ensures.unshown ∙ c.gears.invariant.unshown;
   room = omega (arith, c.gears.invariant.room, c.in_ok-take_gear.ensures.room.1);
 }
 

@@ -9,5 +9,6 @@ invariant-gears g l = record {
   taken : TakesGears g.W.World g.W.D.Door g.W.T.Tape g.W.K.Clock l.asked l.initial.world l.world l.gears.items;
   count : vec_len l.gears ≡ l.number;
   steady : g.W.World.faults l.world ≡ g.W.World.faults l.initial.world;
+  unshown : g.W.World.shown l.world ≡ g.W.World.shown l.initial.world;
   room : l.threads ≤ vec_capacity l.gears;
 }

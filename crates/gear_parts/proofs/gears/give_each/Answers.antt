@@ -4,13 +4,14 @@ use Rattle.gear_parts.proofs.WorldLaws.{back_all, back_on}
 use Rattle.gear_parts.proofs.gears.give_each.Goals as goal
 
 pub gears-init : goal.gears-init
-gears-init g c = record { came_back = refl; out = refl; same = (refl, refl) }
+gears-init g c = record { came_back = refl; out = refl; same = (refl, refl); unshown = refl }
 
 pub gears-preserved : goal.gears-preserved
 gears-preserved g c = record {
   came_back = back_on _ _ _ _ _ _ c.in-Some.gear c.gears.invariant.came_back c.in-Some.ensures.items c.back.ensures.came_back;
   out = omega (arith, c.gears.invariant.out, ap length c.in-Some.ensures.items, c.back.ensures.one_less);
   same = (c.back.ensures.same.0 ∙ c.gears.invariant.same.0, c.back.ensures.same.1 ∙ c.gears.invariant.same.1);
+  unshown = c.back.ensures.unshown ∙ c.gears.invariant.unshown;
 }
 
 pub gears-smaller : goal.gears-smaller

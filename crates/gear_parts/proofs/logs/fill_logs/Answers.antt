@@ -10,6 +10,7 @@ logs-init g c = record {
   count = c.requires.none;
   same = (refl, refl, refl);
   steady = refl;
+  unshown = refl;
   room = c.requires.room;
 }
 
@@ -20,6 +21,7 @@ logs-preserved g c =
       count = omega (arith, c.logs.invariant.count, c.in_ok-take_log.ensures.room.0);
       same = (same.0 ∙ c.logs.invariant.same.0, same.1 ∙ c.logs.invariant.same.1, same.2 ∙ c.logs.invariant.same.2);
       steady = c.in_ok-take_log.ensures.counts.steady refl ∙ c.logs.invariant.steady;
+      unshown = c.in_ok-take_log.ensures.unshown ∙ c.logs.invariant.unshown;
       room = omega (arith, c.logs.invariant.room, c.in_ok-take_log.ensures.room.1);
     }
 

@@ -11,5 +11,6 @@ invariant-logs g l = record {
   same : (g.W.World.handed l.world ≡ g.W.World.handed l.initial.world) × (g.W.World.came_back l.world ≡ g.W.World.came_back l.initial.world)
       × (g.W.World.out l.world ≡ g.W.World.out l.initial.world);
   steady : g.W.World.faults l.world ≡ g.W.World.faults l.initial.world;
+  unshown : g.W.World.shown l.world ≡ g.W.World.shown l.initial.world;
   room : l.threads ≤ vec_capacity l.logs;
 }

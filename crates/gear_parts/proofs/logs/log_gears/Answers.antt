@@ -1,4 +1,5 @@
 use Rattle.std.proofs.Common.{refl, ◌∙◌, arith}
+use Rattle.gear_parts.specs.Worlds.{world_side}
 use Rattle.gear_parts.proofs.ListLaws.{as_long}
 use Rattle.gear_parts.proofs.LogLaws.{are_logged, given_after, idle_kept}
 use Rattle.gear_parts.proofs.WorldLaws.{cause_again, no_cause}
@@ -22,7 +23,7 @@ returns-in-Ok-clause-cause g c = no_cause _ _ _ (c.in-Ok.ensures.counts.steady r
 pub returns-in-Err-clause-refused : goal.returns-in-Err-clause-refused
 returns-in-Err-clause-refused g c =
     let same = c.in-Err.ensures.same in
-    given_after _ _ _ _ same.0 same.1 same.2 c.in-Err.ensures.counts.cause.no_fewer c.give_back.ensures.came_back
+    given_after _ (world_side g.W.World c.logs_for.new.world) _ _ same.0 same.1 same.2 c.in-Err.ensures.counts.cause.no_fewer c.give_back.ensures.came_back
     (omega (arith, c.give_back.ensures.fewer, c.args.gears.ok.0)) c.give_back.ensures.same.0 c.give_back.ensures.same.1
 
 pub returns-in-Err-clause-cause : goal.returns-in-Err-clause-cause

@@ -10,13 +10,13 @@ give_back-requires-clause-out g c κs =
     let few = rw same at c.requires.out in
     omega (arith, few, c.args.gears.ok.0)
 
-pub returns-in-Kept : goal.returns-in-Kept
-returns-in-Kept g c =
+pub returns-in-Kept-clause-given : goal.returns-in-Kept-clause-given
+returns-in-Kept-clause-given g c =
     let same : returned c.args.closing.now c.args.gears.items ≡ c.args.gears.items =
     elim c.in-Kept.is [ inl a ↦ rw a refl | inr b ↦ elim b [ inl x ↦ rw x refl | inr y ↦ rw y.1 refl ] ] in
     rw same
     (all_given _ _ c.args.gears.items c.give_back.ensures.came_back (omega (arith, c.give_back.ensures.fewer, c.args.gears.ok.0))
     c.give_back.ensures.same.0 c.give_back.ensures.same.1)
 
-pub returns-in-NoMemory : goal.returns-in-NoMemory
-returns-in-NoMemory g c = rw c.in-NoMemory.is (nothing_passed _)
+pub returns-in-NoMemory-clause-given : goal.returns-in-NoMemory-clause-given
+returns-in-NoMemory-clause-given g c = rw c.in-NoMemory.is (nothing_passed _)
