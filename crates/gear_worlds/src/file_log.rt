@@ -1,5 +1,5 @@
 //! A log over a file.
-ghost use Rattle.std.specs.Prelude.{◌≡◌, ◌<◌, ◌≤◌, IfOk, length};
+ghost use Rattle.std.specs.Prelude.{◌≡◌, ◌<◌, ◌≤◌, IfOk, None, length};
 
 use crate::real_times::RealTimes;
 use crate::tries::{APART_MILLIS, patience};
@@ -28,7 +28,7 @@ pub struct FileLog<'r, F: Write + Drop, R: Clock> {
 impl<'r, F: Write + Drop, R: Clock> FileLog<'r, F, R> {
     /// A sink over the file at this path, which was opened to write at its end.
     pub fn new(rt: &'r R, path: Bytes, file: F, notices: Notices) -> FileLog<'r, F, R>
-        ensures { (result.path ≡ path) × (result.file ≡ file) × (result.failed ≡ 0) }
+        ensures { (result.path ≡ path) × (result.file ≡ file) × (result.trouble ≡ None) × (result.failed ≡ 0) }
     {
         FileLog {
             rt,
@@ -41,7 +41,9 @@ impl<'r, F: Write + Drop, R: Clock> FileLog<'r, F, R> {
     }
 
     /// Why a line couldn't be written.
-    pub(crate) fn take_trouble(&mut self) -> Option<Trouble> {
+    pub(crate) fn take_trouble(&mut self) -> Option<Trouble>
+        ensures { result ≡ self.old.trouble }
+    {
         self.trouble.take()
     }
 }

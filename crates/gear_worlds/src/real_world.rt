@@ -1,7 +1,8 @@
 //! The real world: sockets, files and the system's clock.
 ghost use Rattle.std.specs.Prelude.{◌≡◌, ◌+◌, ◌<◌, ◌≤◌, IfOk, IsErrOf, IsSome, None, Some, map};
-ghost use Rattle.std.specs.Option.{option_copied, option_map};
+ghost use Rattle.std.specs.Option.{option_and_then, option_copied, option_map};
 ghost use Rattle.jk_io.specs.Told.{Rose};
+ghost use Rattle.gear_worlds.specs.Real.{files_trouble, shelf_trouble};
 ghost use Rattle.gear_worlds.specs.RealDoors.{door_clients};
 
 use crate::descriptors::fitting;
@@ -457,7 +458,9 @@ fn control_trouble(
 fn trouble_in<'r, R: Files + Clock + Wait>(
     shelf: &mut RealShelf<'r, R>,
     log: Option<FileLog<'r, R::File, R>>,
-) -> Option<Trouble> {
+) -> Option<Trouble>
+    ensures { result ≡ files_trouble (shelf_trouble shelf.old) (option_and_then (λ l. l.trouble) log.entry) }
+{
     match (shelf.take_trouble(), log) {
         (None, Some(mut log)) => log.take_trouble(),
         (trouble, _) => trouble,

@@ -1,7 +1,8 @@
 //! Shelves of the real world: files in a directory, or none.
-ghost use Rattle.std.specs.Prelude.{◌≡◌, ◌≤◌, IfOk, IsSome, None, true, false, Ok, Err, IsErrOf, OnOk, slice_get};
+ghost use Rattle.std.specs.Prelude.{◌≡◌, ◌≤◌, IfOk, IsSome, None, true, false, Ok, Err, IsErrOf, OnOk, Some, slice_get};
 ghost use Rattle.std.specs.Fs.{asks_create_new, asks_write};
 ghost use Rattle.gear_worlds.specs.Files.{IsFileOf};
+ghost use Rattle.gear_worlds.specs.Real.{shelf_trouble};
 ghost use Rattle.jk_io.specs.Told.{HasCause};
 
 use crate::journal_files::{SegmentFile, segment_file};
@@ -45,7 +46,7 @@ impl<'r, R: Files + Wait + Clock> FileShelf<'r, R> {
         notices: Notices,
         turns: SegmentTurns,
     ) -> FileShelf<'r, R>
-        ensures { (result.dir ≡ dir) × (result.names ≡ names) × (result.failed ≡ 0) }
+        ensures { (result.dir ≡ dir) × (result.names ≡ names) × (result.trouble ≡ None) × (result.failed ≡ 0) }
     {
         FileShelf {
             rt,
@@ -60,14 +61,28 @@ impl<'r, R: Files + Wait + Clock> FileShelf<'r, R> {
 
     /// Which segment couldn't be written first, and why.
     pub fn take_trouble(&mut self) -> Option<Trouble>
-        ensures { self.new.failed ≡ self.old.failed }
+        ensures told { result ≡ self.old.trouble }
+        ensures taken { self.new.trouble ≡ None }
+        ensures same { self.new.failed ≡ self.old.failed }
     {
         self.trouble.take()
     }
 
+    // Keeps why a segment couldn't be written, of the first that couldn't.
+    fn note(&mut self, trouble: Trouble)
+        ensures first { self.old.trouble ≡ None → self.new.trouble ≡ Some trouble }
+        ensures kept { IsSome self.old.trouble → self.new.trouble ≡ self.old.trouble }
+        ensures same { self.new.failed ≡ self.old.failed }
+    {
+        if self.trouble.is_none() {
+            self.trouble = Some(trouble);
+        }
+    }
+
     // Writes the file of a segment, and says whether that was done whole. A balancer that has no name here has no file.
     fn write(&mut self, lb: u32, segment: &Segment) -> Result<bool, NoMemory>
-        ensures { self.new.failed ≡ self.old.failed }
+        ensures same { self.new.failed ≡ self.old.failed }
+        ensures first { IsSome self.old.trouble → self.new.trouble ≡ self.old.trouble }
     {
         match self.file_of(lb, segment)? {
             Some(file) => Ok(self.write_file(lb, file)),
@@ -87,7 +102,8 @@ impl<'r, R: Files + Wait + Clock> FileShelf<'r, R> {
 
     // Writes a new file, and says whether that was done whole. It isn't where the path isn't UTF-8.
     fn write_file(&mut self, lb: u32, file: SegmentFile) -> bool
-        ensures { self.new.failed ≡ self.old.failed }
+        ensures same { self.new.failed ≡ self.old.failed }
+        ensures first { IsSome self.old.trouble → self.new.trouble ≡ self.old.trouble }
     {
         let SegmentFile { path, text } = file;
         let Ok(path) = String::from_utf8(path.into_vec()) else {
@@ -103,7 +119,7 @@ impl<'r, R: Files + Wait + Clock> FileShelf<'r, R> {
             Ok(()) => true,
             Err(reason) => {
                 self.notices.given_up(path.as_str(), &reason);
-                self.trouble = Some(Trouble::Unwritten { path, reason });
+                self.note(Trouble::Unwritten { path, reason });
                 false
             }
         }
@@ -116,6 +132,7 @@ impl<'r, R: Files + Wait + Clock> FileShelf<'r, R> {
         ensures cause { HasCause self.old.failed self.new.failed result }
         ensures stands { OnOk result (self.new.failed ≡ self.old.failed) }
         ensures wanted { IsErrOf result IoError.NoMemory → self.new.failed ≡ self.old.failed }
+        ensures same { self.new.trouble ≡ self.old.trouble }
     {
         if written {
             return Ok(());
@@ -140,6 +157,7 @@ impl<'r, R: Files + Wait + Clock> FileShelf<'r, R> {
         ensures cause { HasCause self.old.failed self.new.failed result }
         ensures stands { OnOk result (self.new.failed ≡ self.old.failed) }
         ensures wanted { IsErrOf result IoError.NoMemory → self.new.failed ≡ self.old.failed }
+        ensures first { IsSome self.old.trouble → self.new.trouble ≡ self.old.trouble }
     {
         self.turns.wait_until(self.rt, lb, segment.opening.next);
         let written = self.write(lb, segment);
@@ -270,7 +288,9 @@ pub enum RealShelf<'r, R: Files> {
 
 impl<'r, R: Files + Wait + Clock> RealShelf<'r, R> {
     /// Which segment couldn't be written first, and why.
-    pub(crate) fn take_trouble(&mut self) -> Option<Trouble> {
+    pub(crate) fn take_trouble(&mut self) -> Option<Trouble>
+        ensures { result ≡ shelf_trouble self.old }
+    {
         match self {
             RealShelf::Files(shelf) => shelf.take_trouble(),
             RealShelf::Dropped(_) => None,
