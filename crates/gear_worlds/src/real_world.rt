@@ -592,6 +592,9 @@ where
         requires out { 0 < self.old.counts.out }
         ensures one_less { self.new.counts.out + 1 ≡ self.old.counts.out }
         ensures same { self.new.counts.failed ≡ self.old.counts.failed }
+        ensures kept { IsSome self.old.trouble → self.new.trouble ≡ self.old.trouble }
+        ensures first { self.old.trouble ≡ None
+            → self.new.trouble ≡ files_trouble (shelf_trouble gear.entry.shelf) (option_and_then (λ l. l.trouble) gear.entry.log) }
     {
         self.counts.out -= 1;
         let Gear {
