@@ -24,12 +24,11 @@ struct Slot<'s, 'r, L: SiteName, R> {
     ghost whole: { IsWholeDesk (2 ∷ []) desk.desk },
 }
 
-/// A share of the ledger of a drill's Site, to which no entry was counted yet.
+/// A share of a Site's ledger, to which no entry was counted yet.
 #[derive(Drop)]
 pub(crate) struct UnusedShare<L: SiteName> {
     pub(crate) share: DeskShare<L>,
     pub ghost amount: { share.amount ≡ 0 },
-    pub ghost of_two: { L.sizes ≡ 2 ∷ [] },
 }
 
 /// What the threads leave: their desks' receipts, of which none was forgotten, and the bytes of all bodies.
@@ -48,6 +47,7 @@ fn put_slot<'s, 'r, L: SiteName, R>(
     part: UnusedShare<L>,
 )
     requires part { part.share.parts ≡ 1 }
+    requires sizes { L.sizes ≡ 2 ∷ [] }
     requires room { vec_len slots.old < vec_capacity slots.old }
     ensures len { vec_len slots.new ≡ vec_len slots.old + 1 }
     ensures capacity { vec_capacity slots.new ≡ vec_capacity slots.old }
@@ -71,6 +71,7 @@ fn fill_slots<'s, 'r, L: SiteName, R>(
     requires none { slots.old.items ≡ [] }
     requires room { threads ≤ vec_capacity slots.old }
     requires parts { unused.old.share.parts ≡ threads }
+    requires sizes { L.sizes ≡ 2 ∷ [] }
     ensures count { vec_len slots.new ≡ threads }
 {
     'slots: for _ in 0..threads {
@@ -87,6 +88,7 @@ fn slots_for<'s, 'r, L: SiteName, R>(
     threads: u32,
 ) -> Result<Vec<Slot<'s, 'r, L, R>>, NoMemory>
     requires parts { unused.share.parts ≡ threads }
+    requires sizes { L.sizes ≡ 2 ∷ [] }
     ensures count { IfOk result (λ slots. vec_len slots ≡ threads) }
 {
     let mut unused = unused;
@@ -204,6 +206,7 @@ pub(crate) fn serve_all<'s, 'r, L: SiteName + Send + Sync, R: Threads + Wait + S
     unused: UnusedShare<L>,
 ) -> Result<ThreadsLeft<L>, NoMemory>
     requires parts { unused.share.parts ≡ plan.threads }
+    requires sizes { L.sizes ≡ 2 ∷ [] }
     ensures parts { IfOk result (λ left. sum_by (λ l. l.share.parts) left.leaving ≡ plan.threads) }
     ensures some { IfOk result (λ left. 0 < length left.leaving) }
 
