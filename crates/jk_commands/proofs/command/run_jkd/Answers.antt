@@ -1,6 +1,6 @@
 use Rattle.std.proofs.Common.{◌≡◌, None, refl}
 use Rattle.jk_cli.specs.declared.order.Order.TheVariants as order
-use Rattle.jk_commands.proofs.CommandLaws.{contain_done, contain_keeps, drill_wants, same_status, serve_done, serve_lose, serve_wants, served_command}
+use Rattle.jk_commands.proofs.CommandLaws.{contain_done, contain_keeps, drill_wants, files_read, plain_done, plain_ends, plain_loses, plain_no_command, plain_wants, same_status, serve_done, serve_lose, serve_wants, served_command}
 use Rattle.jk_commands.proofs.command.run_jkd.Goals as goal
 
 -- ---- `serve`
