@@ -86,8 +86,8 @@ pub cause_kept : {A B : Type 0} (before now : ℕ) (read : A) (result : Result B
 cause_kept before now read result cause never = record {
   no_fewer = cause.no_fewer;
   failed = λ failed. absurd (never failed);
-  wanted = λ _. cause.steady tt;
-  steady = λ _. cause.steady tt;
+  wanted = λ _. cause.steady refl;
+  steady = λ _. cause.steady refl;
 }
 
 -- nothing was read
