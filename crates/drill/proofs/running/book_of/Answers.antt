@@ -2,5 +2,5 @@
 use Rattle.drill.proofs.ClosingLaws.{measured_locked}
 use Rattle.drill.proofs.running.book_of.Goals as goal
 
-pub returns-else-passes-clause-measured : goal.returns-else-passes-clause-measured
-returns-else-passes-clause-measured g c = measured_locked _ _ _ c.args.passes c.drilled_book.result c.if-passes.false c.drilled_book.ensures.measured
+pub returns-clause-measured : goal.returns-clause-measured
+returns-clause-measured g c = measured_locked _ _ _ c.args.passes c.drilled_book.result c.if-passes.false c.drilled_book.ensures.measured
