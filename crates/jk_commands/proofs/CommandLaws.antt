@@ -239,7 +239,7 @@ plain_six command s n site plain.Refused said six = let is : 3 ≡ 6 = six in ab
 plain_six command s n site plain.Running said six = let is : 4 ≡ 6 = six in absurd (omega (arith, is))
 plain_six command s n site plain.InputFault said six = let is : 4 ≡ 6 = six in absurd (omega (arith, is))
 plain_six command s n site plain.OutputFault said six = let is : 5 ≡ 6 = six in absurd (omega (arith, is))
-plain_six command s n site plain.NoMemory said six = said.1.1.1.1
+plain_six command s n site plain.NoMemory said six = said.1.1.1
 
 pub plain_ends : {L : Type 0} (command : Order) (s n : PlainSide) (site : Option SiteFound) (by : PlainEnd) (status : ℕ) → EndsSo command s n site by → status ≡ number_of by
     → EndsPlain {L = L} command s n (end.Status status) site

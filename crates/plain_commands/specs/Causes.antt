@@ -4,8 +4,13 @@ use Rattle.jk_io.specs.Told.{Rose}
 use Rattle.jk_io.specs.declared.failures.IoError.{IoError}
 use Rattle.jk_io.specs.declared.failures.IoError.TheVariants as io
 
--- the count never falls, the command failed only where it rose, and it stands where the command failed in no read
+-- the count never falls, and the command failed only where it rose
 pub record IsCaused {T : Type 0} (before now : ℕ) (result : Result T IoError) : Type 0 where
+  pub no_fewer : before ≤ now
+  pub failed : IsErrOf result io.Failed → Rose before now
+
+-- the same, and the count stands where the command didn't fail
+pub record IsJustCaused {T : Type 0} (before now : ℕ) (result : Result T IoError) : Type 0 where
   pub no_fewer : before ≤ now
   pub failed : IsErrOf result io.Failed → Rose before now
   pub wanted : IsErrOf result io.NoMemory → now ≡ before

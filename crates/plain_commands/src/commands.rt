@@ -2,7 +2,7 @@
 ghost use Rattle.std.specs.Prelude.{◌≡◌, ◌≤◌, ◌⊎◌, [], ◌∷◌, length, Some, None, true, IfOk, IsOk, IsErrOf};
 ghost use Rattle.jk_cli.specs.declared.order.Order.TheVariants as order;
 ghost use Rattle.jk_io.specs.Told.{Rose};
-ghost use Rattle.plain_commands.specs.Causes.{IsCaused};
+ghost use Rattle.plain_commands.specs.Causes.{IsCaused, IsJustCaused};
 ghost use Rattle.plain_commands.specs.Endings.{OfAnswer, PlainOfFiles, PlainOfInput, PrintsOfInput, status_of, told_outside};
 ghost use Rattle.plain_commands.specs.Plain.{is_plain, readings, HasFormat, InputIsDue, MatchesRead, Plain, StopsFront};
 ghost use Rattle.site_reports.specs.Readings.{has_file, Input};
@@ -60,7 +60,7 @@ fn config_workers<F: Files>(
     workers: &Bytes,
 ) -> Result<PlainAnswer, IoError>
     ensures ok { IfOk result (λ o. PlainOfFiles (F.files files.old) (order.Config workers.now None) o) }
-    ensures cause { IsCaused (F.faults files.old) (F.faults files.new) result }
+    ensures cause { IsJustCaused (F.faults files.old) (F.faults files.new) result }
 {
     match read_text(alloc, files, workers)? {
         None => too_long(alloc),
@@ -76,7 +76,7 @@ fn config_site<F: Files>(
     map: &Bytes,
 ) -> Result<PlainAnswer, IoError>
     ensures ok { IfOk result (λ o. PlainOfFiles (F.files files.old) (order.Config workers.now (Some map.now)) o) }
-    ensures cause { IsCaused (F.faults files.old) (F.faults files.new) result }
+    ensures cause { IsJustCaused (F.faults files.old) (F.faults files.new) result }
 {
     match read_pair(alloc, files, workers, map)? {
         None => too_long(alloc),
@@ -92,7 +92,7 @@ fn config<F: Files>(
     map: &Option<Bytes>,
 ) -> Result<PlainAnswer, IoError>
     ensures ok { IfOk result (λ o. PlainOfFiles (F.files files.old) (order.Config workers.now map.now) o) }
-    ensures cause { IsCaused (F.faults files.old) (F.faults files.new) result }
+    ensures cause { IsJustCaused (F.faults files.old) (F.faults files.new) result }
 {
     match map {
         None => config_workers(alloc, files, workers),
@@ -130,8 +130,8 @@ fn match_paths<F: Files, S: Source>(
     ensures ok { IfOk result (OfAnswer (Plain (told_outside F.Files S.Meanings files.old input.old)
         (order.Match workers.now map.now verbose))) }
     ensures failed { IsErrOf result IoError.Failed → Rose (F.faults files.old) (F.faults files.new) ⊎ Rose (S.faults input.old) (S.faults input.new) }
-    ensures wanted { IsErrOf result IoError.NoMemory → (F.faults files.new ≡ F.faults files.old) × (S.faults input.new ≡ S.faults input.old) }
-    ensures steady { IsOk result → (F.faults files.new ≡ F.faults files.old) × (S.faults input.new ≡ S.faults input.old) }
+    ensures wanted { IsErrOf result IoError.NoMemory → F.faults files.new ≡ F.faults files.old }
+    ensures steady { IsOk result → F.faults files.new ≡ F.faults files.old }
     ensures input { (input.new ≡ input.old)
         ⊎ InputIsDue (told_outside F.Files S.Meanings files.old input.old) (order.Match workers.now map.now verbose) }
 {
@@ -159,7 +159,7 @@ fn stopped(alloc: Global, answer: &[u8]) -> Output
 // `stop PATH`
 fn stop_front<F: Files>(alloc: Global, files: &mut F, path: &Bytes) -> Result<PlainAnswer, IoError>
     ensures ok { IfOk result (λ o. PlainOfFiles (F.files files.old) (order.Stop path.now) o) }
-    ensures cause { IsCaused (F.faults files.old) (F.faults files.new) result }
+    ensures cause { IsJustCaused (F.faults files.old) (F.faults files.new) result }
 {
     match read_text(alloc, files, path)? {
         None => too_long(alloc),
@@ -177,8 +177,8 @@ pub(crate) fn answer<F: Files, S: Source>(
     requires built { is_plain order.now ≡ true }
     ensures ok { IfOk result (OfAnswer (Plain (told_outside F.Files S.Meanings files.old input.old) order.now)) }
     ensures failed { IsErrOf result IoError.Failed → Rose (F.faults files.old) (F.faults files.new) ⊎ Rose (S.faults input.old) (S.faults input.new) }
-    ensures wanted { IsErrOf result IoError.NoMemory → (F.faults files.new ≡ F.faults files.old) × (S.faults input.new ≡ S.faults input.old) }
-    ensures steady { IsOk result → (F.faults files.new ≡ F.faults files.old) × (S.faults input.new ≡ S.faults input.old) }
+    ensures wanted { IsErrOf result IoError.NoMemory → F.faults files.new ≡ F.faults files.old }
+    ensures steady { IsOk result → F.faults files.new ≡ F.faults files.old }
     ensures files { (files.new ≡ files.old) ⊎ (has_file (readings order.now) ≡ true) }
     ensures format { (files.new ≡ files.old) ⊎ HasFormat order.now }
     ensures input { (input.new ≡ input.old) ⊎ InputIsDue (told_outside F.Files S.Meanings files.old input.old) order.now }

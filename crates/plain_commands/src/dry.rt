@@ -1,7 +1,7 @@
 //! `dry`: one session over what its files say.
 ghost use Rattle.std.specs.Prelude.{[], ◌∷◌, IfOk, IsErrOf};
 ghost use Rattle.jk_cli.specs.declared.order.Order.TheVariants as order;
-ghost use Rattle.plain_commands.specs.Causes.{IsCaused};
+ghost use Rattle.plain_commands.specs.Causes.{IsJustCaused};
 ghost use Rattle.plain_commands.specs.Endings.{OfAnswer, PlainOfFiles, PrintsOfFiles};
 ghost use Rattle.plain_commands.specs.Plain.{DryOver, DryAlone};
 ghost use Rattle.plain_commands.specs.Printed.{PrintsSession};
@@ -33,7 +33,7 @@ fn dry_site<F: Files>(
 ) -> Result<PlainAnswer, IoError>
     ensures ok { IfOk result (λ o. PrintsOfFiles (F.files files.old) (File workers.now ∷ File map.now ∷ [])
         (DryOver wire.entry.request.now wire.entry.reply.now) o) }
-    ensures cause { IsCaused (F.faults files.old) (F.faults files.new) result }
+    ensures cause { IsJustCaused (F.faults files.old) (F.faults files.new) result }
 {
     match read_pair(alloc, files, workers, map)? {
         None => too_long(alloc),
@@ -49,7 +49,7 @@ fn dry_over<F: Files>(
     site: &Option<(Bytes, Bytes)>,
 ) -> Result<PlainAnswer, IoError>
     ensures ok { IfOk result (PrintsSession (F.files files.old) wire.entry.request.now wire.entry.reply.now site.now) }
-    ensures cause { IsCaused (F.faults files.old) (F.faults files.new) result }
+    ensures cause { IsJustCaused (F.faults files.old) (F.faults files.new) result }
 {
     match site {
         None => dry_alone(alloc, wire),
@@ -66,7 +66,7 @@ pub(crate) fn dry<F: Files>(
     site: &Option<(Bytes, Bytes)>,
 ) -> Result<PlainAnswer, IoError>
     ensures ok { IfOk result (λ o. PlainOfFiles (F.files files.old) (order.Dry request.now reply.now site.now) o) }
-    ensures cause { IsCaused (F.faults files.old) (F.faults files.new) result }
+    ensures cause { IsJustCaused (F.faults files.old) (F.faults files.new) result }
 {
     match read_pair(alloc, files, request, reply)? {
         None => too_long(alloc),

@@ -1,7 +1,7 @@
 //! `log`: the log of one session over what its files say.
 ghost use Rattle.std.specs.Prelude.{◌≡◌, ◌⊎◌, List, [], ◌∷◌, IfOk, IsErrOf, None};
 ghost use Rattle.jk_cli.specs.declared.order.Order.TheVariants as order;
-ghost use Rattle.plain_commands.specs.Causes.{IsCaused};
+ghost use Rattle.plain_commands.specs.Causes.{IsJustCaused};
 ghost use Rattle.plain_commands.specs.Endings.{LogOfFiles, PrintsOfFiles, log_readings, status_of};
 ghost use Rattle.plain_commands.specs.Plain.{LogOf, LogOver};
 ghost use Rattle.request_log.specs.Formats.{IsFormat, refusal_line as line_of_refusal};
@@ -36,7 +36,7 @@ fn log_site<F: Files>(
 ) -> Result<PlainAnswer, IoError>
     ensures ok { IfOk result (λ o. PrintsOfFiles (F.files files.old) (File names.now.workers.now ∷ File names.now.map.now ∷ [])
         (LogOver format.now wire.entry.request.now wire.entry.reply.now) o) }
-    ensures cause { IsCaused (F.faults files.old) (F.faults files.new) result }
+    ensures cause { IsJustCaused (F.faults files.old) (F.faults files.new) result }
 {
     match read_pair(alloc, files, names.workers, names.map)? {
         None => too_long(alloc),
@@ -52,7 +52,7 @@ fn log_over<F: Files>(
     names: &LogNames<'_>,
 ) -> Result<PlainAnswer, IoError>
     ensures ok { IfOk result (λ o. PrintsOfFiles (F.files files.old) (log_readings names.now) (LogOf format.now) o) }
-    ensures cause { IsCaused (F.faults files.old) (F.faults files.new) result }
+    ensures cause { IsJustCaused (F.faults files.old) (F.faults files.new) result }
 {
     match read_pair(alloc, files, names.request, names.reply)? {
         None => too_long(alloc),
@@ -86,7 +86,7 @@ pub(crate) fn log<F: Files>(
 ) -> Result<PlainAnswer, IoError>
     ensures ok { IfOk result (λ o. LogOfFiles (F.files files.old)
         (order.Log format.now names.now.request.now names.now.reply.now names.now.workers.now names.now.map.now) o) }
-    ensures cause { IsCaused (F.faults files.old) (F.faults files.new) result }
+    ensures cause { IsJustCaused (F.faults files.old) (F.faults files.new) result }
     ensures format { (files.new ≡ files.old) ⊎ ((parts : List AnyPart) × IsFormat format.now parts) }
 {
     match read_format(alloc, format.as_slice()) {

@@ -115,7 +115,7 @@ pub fn run_plain<F: Files, S: Source, O: Sink>(
     input: &mut S,
     out: &mut O,
 ) -> PlainRun
-    // By each end what was printed and which site was judged, why it came, and where no read and no write failed.
+    // By each end what was printed and which site was judged, and why it came.
     ensures ends { let at = plain_side F.Files S.Meanings O.Meanings in
         EndsSo order.now (at files.old input.old out.old) (at files.new input.new out.new) result.site result.end }
 

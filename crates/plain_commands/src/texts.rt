@@ -1,7 +1,7 @@
 //! Reading the texts of a command, each whole.
 ghost use Rattle.std.specs.Prelude.{◌≡◌, ◌<◌, ◌≤◌, [], ◌∷◌, Some, length, IfOk, IfSome, IfNone, IsSomeAnd};
 ghost use Rattle.jk_io.specs.Stored.{content_of};
-ghost use Rattle.plain_commands.specs.Causes.{IsCaused};
+ghost use Rattle.plain_commands.specs.Causes.{IsCaused, IsJustCaused};
 ghost use Rattle.site_reports.specs.Readings.{AreRead, File, OfFiles, StopsLong};
 ghost use Rattle.jk_io.specs.declared.whole_input.TheConstants.{MAX_INPUT_BYTES};
 
@@ -17,7 +17,7 @@ pub(crate) fn read_text<F: Files>(
     ensures there { IfOk result (λ read. IfSome read (λ text. IfSome (F.files files.old) (λ all. content_of all name.now ≡ Some text))) }
     ensures short { IfOk result (λ read. IfSome read (λ text. length text ≤ MAX_INPUT_BYTES)) }
     ensures long { IfOk result (λ read. IfNone read (IfSome (F.files files.old) (λ all. IsSomeAnd (content_of all name.now) (λ text. MAX_INPUT_BYTES < length text)))) }
-    ensures cause { IsCaused (F.faults files.old) (F.faults files.new) result }
+    ensures cause { IsJustCaused (F.faults files.old) (F.faults files.new) result }
     ensures same { F.files files.new ≡ F.files files.old }
 {
     match files.read_file(alloc, name) {
@@ -39,7 +39,7 @@ pub(crate) fn read_pair<F: Files>(
         AreRead outside (File first.now ∷ File second.now ∷ []) (texts.0 ∷ texts.1 ∷ [])))) }
     ensures long { OfFiles (F.files files.old) (λ outside. IfOk result (λ read. IfNone read
         (StopsLong outside (File first.now ∷ File second.now ∷ [])))) }
-    ensures cause { IsCaused (F.faults files.old) (F.faults files.new) result }
+    ensures cause { IsJustCaused (F.faults files.old) (F.faults files.new) result }
     ensures same { F.files files.new ≡ F.files files.old }
 {
     let Some(first) = read_text(alloc, files, first)? else {

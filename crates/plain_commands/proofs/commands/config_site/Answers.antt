@@ -4,7 +4,7 @@ use Rattle.jk_cli.specs.declared.order.Order.TheVariants as order
 use Rattle.site_reports.specs.Found.{FindsSite}
 use Rattle.site_reports.specs.Readings.{File}
 use Rattle.site_reports.specs.Reports.{ReportsSite}
-use Rattle.plain_commands.proofs.PlainLemmas.{cause_kept, long_ok, printed_ok, read_ok}
+use Rattle.plain_commands.proofs.PlainLemmas.{just_kept, long_ok, printed_ok, read_ok}
 use Rattle.plain_commands.proofs.commands.config_site.Goals as goal
 
 pub returns-in-None-clause-ok : goal.returns-in-None-clause-ok
@@ -13,7 +13,7 @@ returns-in-None-clause-ok g c =
     (λ incoming. rw c.in-None.is at (c.in_ok-read_pair.ensures.long incoming))
 
 pub returns-in-None-clause-cause : goal.returns-in-None-clause-cause
-returns-in-None-clause-cause g c = cause_kept _ _ _ _ c.in_ok-read_pair.ensures.cause c.too_long.ensures.failed
+returns-in-None-clause-cause g c = just_kept _ _ _ _ c.in_ok-read_pair.ensures.cause c.too_long.ensures.failed
 
 pub report_site-requires : goal.report_site-requires
 report_site-requires g c =
@@ -28,4 +28,4 @@ returns-in-Some-clause-ok g c =
     c.report_site.ensures.found c.report_site.ensures.text c.printed.ensures.ok)
 
 pub returns-in-Some-clause-cause : goal.returns-in-Some-clause-cause
-returns-in-Some-clause-cause g c = cause_kept _ _ _ _ c.in_ok-read_pair.ensures.cause c.printed.ensures.failed
+returns-in-Some-clause-cause g c = just_kept _ _ _ _ c.in_ok-read_pair.ensures.cause c.printed.ensures.failed

@@ -4,7 +4,7 @@ use Rattle.jk_cli.specs.declared.order.Order.TheVariants as order
 use Rattle.site_reports.specs.Found.{FindsWorkers}
 use Rattle.site_reports.specs.Readings.{File}
 use Rattle.site_reports.specs.Reports.{ReportsConfig}
-use Rattle.plain_commands.proofs.PlainLemmas.{cause_kept, long_ok, printed_ok, read_ok}
+use Rattle.plain_commands.proofs.PlainLemmas.{just_kept, long_ok, printed_ok, read_ok}
 use Rattle.plain_commands.proofs.commands.config_workers.Goals as goal
 
 pub returns-in-None-clause-ok : goal.returns-in-None-clause-ok
@@ -13,7 +13,7 @@ returns-in-None-clause-ok g c =
     (λ incoming. inl (rw c.in-None.is at c.in_ok-read_text.ensures.long))
 
 pub returns-in-None-clause-cause : goal.returns-in-None-clause-cause
-returns-in-None-clause-cause g c = cause_kept _ _ _ _ c.in_ok-read_text.ensures.cause c.too_long.ensures.failed
+returns-in-None-clause-cause g c = just_kept _ _ _ _ c.in_ok-read_text.ensures.cause c.too_long.ensures.failed
 
 pub returns-in-Some-clause-ok : goal.returns-in-Some-clause-ok
 returns-in-Some-clause-ok g c =
@@ -23,4 +23,4 @@ returns-in-Some-clause-ok g c =
     c.report_config.ensures.found c.report_config.ensures.text c.printed.ensures.ok)
 
 pub returns-in-Some-clause-cause : goal.returns-in-Some-clause-cause
-returns-in-Some-clause-cause g c = cause_kept _ _ _ _ c.in_ok-read_text.ensures.cause c.printed.ensures.failed
+returns-in-Some-clause-cause g c = just_kept _ _ _ _ c.in_ok-read_text.ensures.cause c.printed.ensures.failed

@@ -25,4 +25,4 @@ returns-in-None-clause-ok g c =
     (λ files. inl (rw c.in-None.is at c.in_ok-read_input.ensures.long))
 
 pub returns-in-None-clause-cause : goal.returns-in-None-clause-cause
-returns-in-None-clause-cause g c = cause_kept _ _ _ _ c.in_ok-read_input.ensures.cause c.too_long.ensures.failed
+returns-in-None-clause-cause g c = cause_kept _ _ _ _ c.read_input.ensures.cause c.too_long.ensures.failed

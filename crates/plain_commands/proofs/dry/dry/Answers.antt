@@ -1,5 +1,5 @@
 use Rattle.plain_commands.proofs.DryLemmas.{dry_stops, session_ok}
-use Rattle.plain_commands.proofs.PlainLemmas.{cause_kept, long_ok}
+use Rattle.plain_commands.proofs.PlainLemmas.{just_kept, long_ok}
 use Rattle.plain_commands.specs.Plain.{readings, AnswersOrder}
 use Rattle.jk_cli.specs.declared.order.Order.TheVariants as order
 use Rattle.plain_commands.proofs.dry.dry.Goals as goal
@@ -10,7 +10,7 @@ returns-in-None-clause-ok g c =
     (λ incoming. dry_stops _ c.args.request.now c.args.reply.now c.args.site.now (rw c.in-None.is at (c.in_ok-read_pair.ensures.long incoming)))
 
 pub returns-in-None-clause-cause : goal.returns-in-None-clause-cause
-returns-in-None-clause-cause g c = cause_kept _ _ _ _ c.in_ok-read_pair.ensures.cause c.too_long.ensures.failed
+returns-in-None-clause-cause g c = just_kept _ _ _ _ c.in_ok-read_pair.ensures.cause c.too_long.ensures.failed
 
 pub returns-in-Some-clause-ok : goal.returns-in-Some-clause-ok
 returns-in-Some-clause-ok g c =

@@ -3,7 +3,7 @@ use Rattle.plain_commands.specs.Plain.{DryOver}
 use Rattle.site_reports.specs.Found.{FindsSite}
 use Rattle.site_reports.specs.Readings.{File}
 use Rattle.plain_commands.specs.Dry.{ReportsDry}
-use Rattle.plain_commands.proofs.PlainLemmas.{cause_kept, long_ok, printed_ok, read_ok}
+use Rattle.plain_commands.proofs.PlainLemmas.{just_kept, long_ok, printed_ok, read_ok}
 use Rattle.plain_commands.proofs.dry.dry_site.Goals as goal
 
 pub returns-in-None-clause-ok : goal.returns-in-None-clause-ok
@@ -12,7 +12,7 @@ returns-in-None-clause-ok g c =
     (λ incoming. rw c.in-None.is at (c.in_ok-read_pair.ensures.long incoming))
 
 pub returns-in-None-clause-cause : goal.returns-in-None-clause-cause
-returns-in-None-clause-cause g c = cause_kept _ _ _ _ c.in_ok-read_pair.ensures.cause c.too_long.ensures.failed
+returns-in-None-clause-cause g c = just_kept _ _ _ _ c.in_ok-read_pair.ensures.cause c.too_long.ensures.failed
 
 pub report_dry-requires : goal.report_dry-requires
 report_dry-requires g c =
@@ -27,4 +27,4 @@ returns-in-Some-clause-ok g c =
     c.report_dry.ensures.found c.report_dry.ensures.text c.printed.ensures.ok)
 
 pub returns-in-Some-clause-cause : goal.returns-in-Some-clause-cause
-returns-in-Some-clause-cause g c = cause_kept _ _ _ _ c.in_ok-read_pair.ensures.cause c.printed.ensures.failed
+returns-in-Some-clause-cause g c = just_kept _ _ _ _ c.in_ok-read_pair.ensures.cause c.printed.ensures.failed

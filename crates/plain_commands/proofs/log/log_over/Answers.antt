@@ -2,7 +2,7 @@ use Rattle.std.proofs.Common.{[], ◌∷◌}
 use Rattle.plain_commands.specs.Plain.{LogOf}
 use Rattle.site_reports.specs.Readings.{File}
 use Rattle.plain_commands.proofs.LogLemmas.{over_ok}
-use Rattle.plain_commands.proofs.PlainLemmas.{cause_kept, long_ok, stops_early}
+use Rattle.plain_commands.proofs.PlainLemmas.{just_kept, long_ok, stops_early}
 use Rattle.plain_commands.proofs.log.log_over.Goals as goal
 
 pub returns-in-None-clause-ok : goal.returns-in-None-clause-ok
@@ -13,7 +13,7 @@ returns-in-None-clause-ok g c =
     (λ incoming. stops_early (record { files = g.F.Files.files c.args.files.now; incoming = incoming }) (File n.request.now) (File n.reply.now) (File n.workers.now ∷ File n.map.now ∷ []) (rw c.in-None.is at (c.in_ok-read_pair.ensures.long incoming)))
 
 pub returns-in-None-clause-cause : goal.returns-in-None-clause-cause
-returns-in-None-clause-cause g c = cause_kept _ _ _ _ c.in_ok-read_pair.ensures.cause c.too_long.ensures.failed
+returns-in-None-clause-cause g c = just_kept _ _ _ _ c.in_ok-read_pair.ensures.cause c.too_long.ensures.failed
 
 pub returns-in-Some-clause-ok : goal.returns-in-Some-clause-ok
 returns-in-Some-clause-ok g c =
