@@ -89,6 +89,18 @@ fn refuse<O: Sink>(out: &mut O, line: &Bytes) -> CommandEnd<Brand>
     }
 }
 
+/// Writes the line of files that are refused, and hands on what was found of them.
+fn refuse_site<O: Sink>(out: &mut O, refused: RefusedSite) -> ServeRun
+    ensures written { WritesLine (O.sent out.old) (O.sent out.new) (O.faults out.old) (O.faults out.new) refused.line result.end }
+    ensures found { result.refused ≡ refused.found }
+{
+    let RefusedSite { line, found } = refused;
+    ServeRun {
+        end: refuse(out, &line),
+        refused: found,
+    }
+}
+
 /// Gives the gears of a run back, unless its closing wanted memory.
 fn give_by<W: World>(world: &mut W, closing: &Closing<Brand>, gears: Vec<GearOf<W>>)
     requires out { length (returned closing.now gears.items) ≤ W.out world.old }
@@ -203,10 +215,7 @@ where
             world.show_site(alloc, &site);
             none_refused(serve_site(rt, alloc, order, &format, &site, world))
         }
-        Ok(Judged::Refused(RefusedSite { line, found })) => ServeRun {
-            end: refuse(out, &line),
-            refused: found,
-        },
+        Ok(Judged::Refused(refused)) => refuse_site(out, refused),
         Err(error) => none_refused(end_by(error)),
     }
 }

@@ -28,15 +28,16 @@ returns-in-Ok-Refused-clause-serves g c =
     λ incoming.
     Formatted c.in-Ok.format (rw c.format_text.ensures at c.in-Ok.ensures.ok)
     (Refused (record {
-      line = c.in-Ok-Refused.line;
+      line = c.in-Ok-Refused.refused.line;
       refused = (rw c.in-Ok-Refused.field-0-is at (c.in-Ok-Refused.ensures.ok incoming)).0;
-      written = c.refuse.ensures;
+      written = c.refuse_site.ensures.written;
       world = refl;
     }))
 
 pub returns-in-Ok-Refused-clause-refused : goal.returns-in-Ok-Refused-clause-refused
 returns-in-Ok-Refused-clause-refused g c =
-    λ incoming. refused_hands_on _ _ _ _ _ c.in-Ok-Refused.found (rw c.in-Ok-Refused.field-0-is at (c.in-Ok-Refused.ensures.ok incoming)).1
+    rw c.refuse_site.ensures.found (λ incoming.
+    refused_hands_on _ _ _ _ _ c.in-Ok-Refused.refused.found (rw c.in-Ok-Refused.field-0-is at (c.in-Ok-Refused.ensures.ok incoming)).1)
 
 pub returns-clause-serves : goal.returns-clause-serves
 returns-clause-serves g c =
