@@ -1,5 +1,5 @@
 -- How a command that asks for workers or threads ends.
-use Rattle.std.proofs.Common.{ℕ, ◌≡◌, ◌≢◌, ◌↔◌, ◌⊎◌, true, false, ◌||◌, Bool, List, [], ◌∷◌, Option, Result, Ok, inl, inr, refl, sym, ◌∙◌, arith}
+use Rattle.std.proofs.Common.{ℕ, ◌≡◌, ◌≢◌, ◌⊎◌, true, false, ◌||◌, Bool, List, [], ◌∷◌, Option, Result, Ok, inl, inr, refl, sym, ◌∙◌, arith}
 use Rattle.ajp_container.specs.declared.worker_ends.ContainerWorker.{ContainerWorker}
 use Rattle.ajp_container.specs.declared.worker_ends.ContainerWorker.TheVariants as container
 use Rattle.drill.specs.Written.{Lacked, RunsDrill, Told, WritesTold}
@@ -28,7 +28,6 @@ use Rattle.request_log.specs.declared.format.Part.{Part as FormatPart}
 use Rattle.site_reports.specs.Readings.{CommandOutside, has_file}
 use Rattle.jk_commands.specs.Ends.{jkd_end, of_drill, status_of}
 use Rattle.jk_commands.specs.Orders.{is_served, IsNoCommand, reads_files}
-use Rattle.jk_commands.specs.Plain.{EndsPlain}
 use Rattle.jk_commands.specs.declared.ends.EndOf.{EndOf}
 use Rattle.jk_commands.specs.declared.ends.EndOf.TheVariants as end
 
@@ -201,7 +200,7 @@ contain_keeps told route threads wanted s n by ended links turned e =
 
 -- ---- a plain command, by the status of its end
 
-plain_none : (command : Order) (s n : PlainSide) (site : Option SiteFound) (by : PlainEnd) → EndsSo command s n site by → is_plain command ≡ false → number_of by ≡ 2
+pub plain_none : (command : Order) (s n : PlainSide) (site : Option SiteFound) (by : PlainEnd) → EndsSo command s n site by → is_plain command ≡ false → number_of by ≡ 2
 plain_none command s n site plain.Done said none = let built = said.0 in cc
 plain_none command s n site plain.Bad said none = let built = said.0 in cc
 plain_none command s n site plain.NoCommand said none = refl
@@ -211,7 +210,8 @@ plain_none command s n site plain.InputFault said none = let built = said.0 in c
 plain_none command s n site plain.OutputFault said none = let built = said.0 in cc
 plain_none command s n site plain.NoMemory said none = let built = said.0 in cc
 
-plain_two : (command : Order) (s n : PlainSide) (site : Option SiteFound) (by : PlainEnd) → EndsSo command s n site by → number_of by ≡ 2 → is_plain command ≡ false
+-- 2 comes with no command alone
+pub plain_two : (command : Order) (s n : PlainSide) (site : Option SiteFound) (by : PlainEnd) → EndsSo command s n site by → number_of by ≡ 2 → is_plain command ≡ false
 plain_two command s n site plain.Done said two = let is : 0 ≡ 2 = two in absurd (omega (arith, is))
 plain_two command s n site plain.Bad said two = let is : 1 ≡ 2 = two in absurd (omega (arith, is))
 plain_two command s n site plain.NoCommand said two = said.0
@@ -221,7 +221,8 @@ plain_two command s n site plain.InputFault said two = let is : 4 ≡ 2 = two in
 plain_two command s n site plain.OutputFault said two = let is : 5 ≡ 2 = two in absurd (omega (arith, is))
 plain_two command s n site plain.NoMemory said two = let is : 6 ≡ 2 = two in absurd (omega (arith, is))
 
-plain_five : (command : Order) (s n : PlainSide) (site : Option SiteFound) (by : PlainEnd) → EndsSo command s n site by → number_of by ≡ 5 → Rose s.faults.output n.faults.output
+-- 5 only where the output's faults rose
+pub plain_five : (command : Order) (s n : PlainSide) (site : Option SiteFound) (by : PlainEnd) → EndsSo command s n site by → number_of by ≡ 5 → Rose s.faults.output n.faults.output
 plain_five command s n site plain.Done said five = let is : 0 ≡ 5 = five in absurd (omega (arith, is))
 plain_five command s n site plain.Bad said five = let is : 1 ≡ 5 = five in absurd (omega (arith, is))
 plain_five command s n site plain.NoCommand said five = let is : 2 ≡ 5 = five in absurd (omega (arith, is))
@@ -231,7 +232,8 @@ plain_five command s n site plain.InputFault said five = let is : 4 ≡ 5 = five
 plain_five command s n site plain.OutputFault said five = said.1.1
 plain_five command s n site plain.NoMemory said five = let is : 6 ≡ 5 = five in absurd (omega (arith, is))
 
-plain_six : (command : Order) (s n : PlainSide) (site : Option SiteFound) (by : PlainEnd) → EndsSo command s n site by → number_of by ≡ 6 → n.faults.output ≡ s.faults.output
+-- 6 only where they stand
+pub plain_six : (command : Order) (s n : PlainSide) (site : Option SiteFound) (by : PlainEnd) → EndsSo command s n site by → number_of by ≡ 6 → n.faults.output ≡ s.faults.output
 plain_six command s n site plain.Done said six = let is : 0 ≡ 6 = six in absurd (omega (arith, is))
 plain_six command s n site plain.Bad said six = let is : 1 ≡ 6 = six in absurd (omega (arith, is))
 plain_six command s n site plain.NoCommand said six = let is : 2 ≡ 6 = six in absurd (omega (arith, is))
@@ -240,38 +242,6 @@ plain_six command s n site plain.Running said six = let is : 4 ≡ 6 = six in ab
 plain_six command s n site plain.InputFault said six = let is : 4 ≡ 6 = six in absurd (omega (arith, is))
 plain_six command s n site plain.OutputFault said six = let is : 5 ≡ 6 = six in absurd (omega (arith, is))
 plain_six command s n site plain.NoMemory said six = said.1.1.1
-
-pub plain_ends : {L : Type 0} (command : Order) (s n : PlainSide) (site : Option SiteFound) (by : PlainEnd) (status : ℕ) → EndsSo command s n site by → status ≡ number_of by
-    → EndsPlain {L = L} command s n (end.Status status) site
-plain_ends command s n site by status said is = record { by = by; said = said; turned = rw is refl }
-
--- 2 comes with no command alone
-pub plain_done : {L : Type 0} (command : Order) (s n : PlainSide) (site : Option SiteFound) (by : PlainEnd) (status : ℕ) → EndsSo command s n site by → status ≡ number_of by
-    → end.Status {L = L} status ≡ end.Status 2 → is_plain command ≡ false
-plain_done command s n site by status said is two = let same : status ≡ 2 = cc in plain_two command s n site by said (sym is ∙ same)
-
-pub plain_no_command : {L : Type 0} (command : Order) (s n : PlainSide) (site : Option SiteFound) (by : PlainEnd) (status : ℕ) → EndsSo command s n site by → status ≡ number_of by
-    → (asked : Result Order WordsError) → asked ≡ Ok command → is_served command ≡ false → (end.Status {L = L} status ≡ end.Status 2) ↔ IsNoCommand asked
-plain_no_command {L} command s n site by status said is asked meant served = (
-  λ two.
-      let no = plain_done {L} command s n site by status said is two in
-      let neither : (is_served command || is_plain command) ≡ false = rw (served, no) refl in
-      rw meant neither,
-  λ none.
-      let neither : (is_served command || is_plain command) ≡ false = rw meant at none in
-      let no : is_plain command ≡ false = rw served at neither in
-      rw (is, plain_none command s n site by said no) refl,
-)
-
--- 5 only where the output's faults rose
-pub plain_loses : {L : Type 0} (command : Order) (s n : PlainSide) (site : Option SiteFound) (by : PlainEnd) (status : ℕ) → EndsSo command s n site by → status ≡ number_of by
-    → end.Status {L = L} status ≡ end.Status 5 → Rose s.faults.output n.faults.output
-plain_loses command s n site by status said is five = let same : status ≡ 5 = cc in plain_five command s n site by said (sym is ∙ same)
-
--- 6 only where they stand
-pub plain_wants : (command : Order) (s n : PlainSide) (site : Option SiteFound) (by : PlainEnd) (status : ℕ) → EndsSo command s n site by → status ≡ number_of by
-    → status ≡ 6 → n.faults.output ≡ s.faults.output
-plain_wants command s n site by status said is six = plain_six command s n site by said (sym is ∙ six)
 
 -- an order that asks for workers or threads is a command
 pub served_command : (asked : Result Order WordsError) (o same : Order) → asked ≡ Ok o → o ≡ same → is_served same ≡ true → IsNoCommand asked → ⊥

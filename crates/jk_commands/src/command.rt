@@ -1,13 +1,13 @@
 //! `run_jkd`: the command that was read of the words.
-ghost use Rattle.std.specs.Prelude.{◌≡◌, ◌↔◌, ◌⊎◌, true, false, Err, IfOk, IsOkAnd};
+ghost use Rattle.std.specs.Prelude.{◌≡◌, ◌↔◌, ◌⊎◌, true, false, Err, IsOkAnd};
 ghost use Rattle.jk_io.specs.Told.{Rose};
-ghost use Rattle.plain_commands.specs.Endings.{plain_side, told_outside};
-ghost use Rattle.plain_commands.specs.Plain.{InputIsDue};
+ghost use Rattle.plain_commands.specs.Endings.{number_of, plain_side, told_outside};
+ghost use Rattle.plain_commands.specs.Plain.{is_plain, InputIsDue};
 ghost use Rattle.jk_server.specs.Commands.{telling};
 ghost use Rattle.jk_commands.specs.Commands.{DoesAsked, HandsOnOrder};
 ghost use Rattle.jk_commands.specs.Ends.{status_of};
 ghost use Rattle.jk_commands.specs.Orders.{IfPlain, IfServed, IsNoCommand, reads_files};
-ghost use Rattle.jk_commands.specs.Plain.{EndsPlain};
+ghost use Rattle.jk_commands.specs.Plain.{EndsPlain, RunsPlain};
 
 use crate::ends::{EndOf, JkdEnd, NO_COMMAND, NO_MEMORY};
 use drill::{DrillOrder, write_drill};
@@ -23,6 +23,31 @@ use std::thread::Threads;
 
 /// Lets a value go. A caller's check then doesn't write out the drop of a large value.
 pub fn let_go<T: Drop>(_it: T) {}
+
+/// Does a plain command, and answers how it ended.
+fn do_plain<F: Files, S: Source, O: Sink>(
+    alloc: Global,
+    order: &Order,
+    files: &mut F,
+    input: &mut S,
+    out: &mut O,
+) -> PlainRun
+    ensures plain { let at = plain_side F.Files S.Meanings O.Meanings in
+        RunsPlain order.now (at files.old input.old out.old) (at files.new input.new out.new) (number_of result.end) result.site }
+    ensures files { (files.new ≡ files.old) ⊎ (reads_files order.now ≡ true) }
+    ensures input { (input.new ≡ input.old) ⊎ InputIsDue (told_outside F.Files S.Meanings files.old input.old) order.now }
+
+    // 2 comes exactly by the order, and then nothing is done.
+    ensures no_command { (number_of result.end ≡ 2) ↔ (is_plain order.now ≡ false) }
+    ensures nothing { number_of result.end ≡ 2 → (files.new ≡ files.old) × (input.new ≡ input.old) }
+    ensures no_words { number_of result.end ≡ 2 → O.sent out.new ≡ O.sent out.old }
+
+    // 5 comes only where the output's faults rose, and 6 only where they stand.
+    ensures output_fault { number_of result.end ≡ 5 → Rose (O.faults out.old) (O.faults out.new) }
+    ensures wanting { number_of result.end ≡ 6 → O.faults out.new ≡ O.faults out.old }
+{
+    run_plain(alloc, order, files, input, out)
+}
 
 /// Does the command that was read of the words, by `read_words`, and answers how it ended; a plain command that judged the files
 /// of a site also what it found of them, and `serve` where one of them is refused.
@@ -99,7 +124,7 @@ where
             (EndOf::from(write_drill(rt, alloc, order, out)), None)
         }
         Ok(order) => {
-            let PlainRun { end, site } = run_plain(alloc, order, files, input, out);
+            let PlainRun { end, site } = do_plain(alloc, order, files, input, out);
             (EndOf::Status(end.status()), site)
         }
         Err(WordsError::Bad) => (EndOf::Status(NO_COMMAND), None),

@@ -1,6 +1,6 @@
 use Rattle.std.proofs.Common.{◌≡◌, None, refl}
 use Rattle.jk_cli.specs.declared.order.Order.TheVariants as order
-use Rattle.jk_commands.proofs.CommandLaws.{contain_done, contain_keeps, drill_wants, files_read, plain_done, plain_ends, plain_loses, plain_no_command, plain_wants, same_status, serve_done, serve_lose, serve_wants, served_command}
+use Rattle.jk_commands.proofs.CommandLaws.{contain_done, contain_keeps, drill_wants, same_status, serve_done, serve_lose, serve_wants, served_command}
 use Rattle.jk_commands.proofs.command.run_jkd.Goals as goal
 
 -- ---- `serve`
@@ -72,25 +72,3 @@ returns-in-Ok-Container-clause-output_fault g c lost =
 
 pub returns-in-Ok-Drill-clause-wanting : goal.returns-in-Ok-Drill-clause-wanting
 returns-in-Ok-Drill-clause-wanting g c = drill_wants _ _ _ _ _ _ _ _ _ c.write_drill.result _ c.write_drill.ensures c.from-in-Ok-Drill.ensures
-
--- ---- any other order
-
-pub returns-in-Ok-clause-plain : goal.returns-in-Ok-clause-plain
-returns-in-Ok-clause-plain g c = rw c.in-Ok.is (λ other. plain_ends _ _ _ _ _ _ c.run_plain.ensures.ends c.status.ensures)
-
-pub returns-in-Ok-clause-files : goal.returns-in-Ok-clause-files
-returns-in-Ok-clause-files g c = rw c.in-Ok.is (files_read _ _ c.run_plain.ensures.files)
-
-pub returns-in-Ok-clause-no_command : goal.returns-in-Ok-clause-no_command
-returns-in-Ok-clause-no_command g c = plain_no_command _ _ _ _ _ _ c.run_plain.ensures.ends c.status.ensures _ c.in-Ok.is refl
-
-pub returns-in-Ok-clause-nothing : goal.returns-in-Ok-clause-nothing
-returns-in-Ok-clause-nothing g c two =
-    let kept = c.run_plain.ensures.nothing (plain_done _ _ _ _ _ _ c.run_plain.ensures.ends c.status.ensures two) in
-    (kept.0, (kept.1.0, (rw kept.1.1 refl, refl)))
-
-pub returns-in-Ok-clause-output_fault : goal.returns-in-Ok-clause-output_fault
-returns-in-Ok-clause-output_fault g c five = plain_loses _ _ _ _ _ _ c.run_plain.ensures.ends c.status.ensures five
-
-pub returns-in-Ok-clause-wanting : goal.returns-in-Ok-clause-wanting
-returns-in-Ok-clause-wanting g c six = plain_wants _ _ _ _ _ _ c.run_plain.ensures.ends c.status.ensures six

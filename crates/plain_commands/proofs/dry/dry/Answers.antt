@@ -1,3 +1,4 @@
+use Rattle.std.proofs.Common.{refl}
 use Rattle.plain_commands.proofs.DryLemmas.{dry_stops, session_ok}
 use Rattle.plain_commands.proofs.PlainLemmas.{just_kept, long_ok}
 use Rattle.plain_commands.specs.Plain.{readings, AnswersOrder}
@@ -17,3 +18,6 @@ returns-in-Some-clause-ok g c =
     session_ok _ c.args.request.now c.args.reply.now c.args.site.now c.in-Some.request c.in-Some.reply c.dry_over.result
     (λ incoming. rw c.in-Some.is at (c.in_ok-read_pair.ensures.there incoming))
     (rw (c.read_pair.ensures.same, c.as_slice.ensures, c.as_slice-in-Some.ensures) at c.dry_over.ensures.ok)
+
+pub returns-in-Some-clause-cause : goal.returns-in-Some-clause-cause
+returns-in-Some-clause-cause g c = rw (c.in_ok-read_pair.ensures.cause.steady refl) at c.dry_over.ensures.cause

@@ -1,4 +1,4 @@
-use Rattle.std.proofs.Common.{[], ◌∷◌}
+use Rattle.std.proofs.Common.{[], ◌∷◌, refl}
 use Rattle.plain_commands.specs.Plain.{LogOf}
 use Rattle.site_reports.specs.Readings.{File}
 use Rattle.plain_commands.proofs.LogLemmas.{over_ok}
@@ -21,3 +21,6 @@ returns-in-Some-clause-ok g c =
     over_ok _ c.args.format.now n.request.now n.reply.now n.workers.now n.map.now c.in-Some.request c.in-Some.reply c.log_site.result
     (λ incoming. rw c.in-Some.is at (c.in_ok-read_pair.ensures.there incoming))
     (rw (c.read_pair.ensures.same, c.as_slice.ensures, c.as_slice-in-Some.ensures) at c.log_site.ensures.ok)
+
+pub returns-in-Some-clause-cause : goal.returns-in-Some-clause-cause
+returns-in-Some-clause-cause g c = rw (c.in_ok-read_pair.ensures.cause.steady refl) at c.log_site.ensures.cause
