@@ -19,3 +19,13 @@ invariant_of-second g c =
       of = c.requires.pair.of;
       back = (second_off _ _ _ c.args.passes _ _ c.requires.pair.dealt c.requires.pair.two (sym c.into_vec-list.ensures ∙ last)).0;
     }
+
+pub invariant_of-result : goal.invariant_of-result
+invariant_of-result g c =
+    let last : c.into_vec-list.result.items ≡ c.pop.new.self.items ++ c.in-Some-Some.second ∷ [] = search rules in
+    let before : c.pop.new.self.items ≡ c.pop-2.new.self.items ++ c.in-Some-Some.first ∷ [] = search rules in
+    record {
+      zero = (first_off _ _ _ c.args.passes _ _ _ _ c.requires.pair.dealt c.requires.pair.two (sym c.into_vec-list.ensures ∙ last) before).1;
+      one = (second_off _ _ _ c.args.passes _ _ c.requires.pair.dealt c.requires.pair.two (sym c.into_vec-list.ensures ∙ last)).1;
+      two = c.requires.pair.two;
+    }
