@@ -159,18 +159,18 @@ pub serve_wants : {W G C S O X Z L : Type 0} (told : Tells W G C S O X Z) (outsi
     → DoesServe told outside workers map text threads wanted s n by → ended ≡ jkd_end by → status_of ended ≡ 6 → n.output_faults ≡ s.output_faults
 serve_wants told outside workers map text threads wanted s n by ended serves turned six = serve_want told outside workers map text threads wanted s n by serves (rw turned at six)
 
-told_wants : {L : Type 0} (sent now : Option (List ℕ)) (faults faults_now : ℕ) (told : List ℕ) (by : DrillEnd) → WritesTold sent now faults faults_now told by
+told_wants : (L : Type 0) (sent now : Option (List ℕ)) (faults faults_now : ℕ) (told : List ℕ) (by : DrillEnd) → WritesTold sent now faults faults_now told by
     → status_of {L = L} (of_drill by) ≡ 6 → faults_now ≡ faults
-told_wants {L} sent now faults faults_now told by (inl (written, ended)) six = let is : 0 ≡ 6 = rw ended at six in absurd (omega (arith, is))
-told_wants {L} sent now faults faults_now told by (inr (inl (front, ended, rose))) six = let is : 5 ≡ 6 = rw ended at six in absurd (omega (arith, is))
-told_wants {L} sent now faults faults_now told by (inr (inr (front, ended, calm))) six = calm
+told_wants L sent now faults faults_now told by (inl (written, ended)) six = let is : 0 ≡ 6 = rw ended at six in absurd (omega (arith, is))
+told_wants L sent now faults faults_now told by (inr (inl (front, ended, rose))) six = let is : 5 ≡ 6 = rw ended at six in absurd (omega (arith, is))
+told_wants L sent now faults faults_now told by (inr (inr (front, ended, calm))) six = calm
 
 -- nor did such a drill
 pub drill_wants : {L : Type 0} (seed threads requests : ℕ) (text passes : Bool) (sent now : Option (List ℕ)) (faults faults_now : ℕ) (by : DrillEnd) (ended : EndOf L)
     → RunsDrill seed threads requests text passes sent now faults faults_now by → ended ≡ of_drill by → status_of ended ≡ 6 → faults_now ≡ faults
-drill_wants seed threads requests text passes sent now faults faults_now by ended (Told w) turned six =
-    told_wants sent now faults faults_now w.told by w.written (rw turned at six)
-drill_wants seed threads requests text passes sent now faults faults_now by ended (Lacked w) turned six = w.calm
+drill_wants {L} seed threads requests text passes sent now faults faults_now by ended (Told w) turned six =
+    told_wants L sent now faults faults_now w.told by w.written (rw turned at six)
+drill_wants {L} seed threads requests text passes sent now faults faults_now by ended (Lacked w) turned six = w.calm
 
 contain_status : {W G C S O X Z L : Type 0} (told : Tells W G C S O X Z) (route : List ℕ) (threads : ℕ) (wanted : GearWants) (s n : WorldSide G) (by : CommandEnd L) (ended : EndOf L) (k : ℕ)
     → ContainsLinks told route threads wanted s n by → ended ≡ jkd_end by → ended ≡ end.Status k → IsOfRun k

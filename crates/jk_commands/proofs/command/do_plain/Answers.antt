@@ -14,12 +14,12 @@ returns-clause-no_command g c = (λ two. plain_two _ _ _ _ _ c.run_plain.ensures
 pub returns-clause-nothing : goal.returns-clause-nothing
 returns-clause-nothing g c two =
     let kept = c.run_plain.ensures.nothing (plain_two _ _ _ _ _ c.run_plain.ensures.ends two) in
-    (kept.0, kept.1.0)
+    (kept.0, kept.1)
 
 pub returns-clause-no_words : goal.returns-clause-no_words
 returns-clause-no_words g c two =
     let kept = c.run_plain.ensures.nothing (plain_two _ _ _ _ _ c.run_plain.ensures.ends two) in
-    rw kept.1.1 refl
+    rw kept.2 refl
 
 pub returns-clause-output_fault : goal.returns-clause-output_fault
 returns-clause-output_fault g c five = plain_five _ _ _ _ _ c.run_plain.ensures.ends five

@@ -9,33 +9,33 @@ pub returns-in-Ok-Serve-clause-serves : goal.returns-in-Ok-Serve-clause-serves
 returns-in-Ok-Serve-clause-serves g c =
     let meant : c.in-Ok-Serve.field-0 ≡ order.Serve c.in-Ok-Serve.order = rw c.in-Ok-Serve.is at c.in-Ok-Serve.field-0-is in
     rw (c.in-Ok-Serve.is, meant) (λ served incoming. record {
-      by = c.serve.result.end;
-      said = c.serve.ensures.serves incoming;
+      by = c.serve-end.result.end;
+      said = c.serve-end.ensures.serves incoming;
       turned = c.from.ensures;
     })
 
 pub returns-in-Ok-Serve-clause-refused : goal.returns-in-Ok-Serve-clause-refused
 returns-in-Ok-Serve-clause-refused g c =
     let meant : c.in-Ok-Serve.field-0 ≡ order.Serve c.in-Ok-Serve.order = rw c.in-Ok-Serve.is at c.in-Ok-Serve.field-0-is in
-    rw (c.in-Ok-Serve.is, meant, c.from.ensures, same_status c.serve.result.end) (λ served. c.serve.ensures.refused)
+    rw (c.in-Ok-Serve.is, meant, c.from.ensures, same_status c.serve-end.result.end) (λ served. c.serve-end.ensures.refused)
 
 pub returns-in-Ok-Serve-clause-no_command : goal.returns-in-Ok-Serve-clause-no_command
 returns-in-Ok-Serve-clause-no_command g c =
     let meant : c.in-Ok-Serve.field-0 ≡ order.Serve c.in-Ok-Serve.order = rw c.in-Ok-Serve.is at c.in-Ok-Serve.field-0-is in (
-      λ two. absurd (serve_done _ _ _ _ _ _ _ _ _ c.serve.result.end _ (c.serve.ensures.serves None) c.from.ensures two),
+      λ two. absurd (serve_done _ _ _ _ _ _ _ _ _ c.serve-end.result.end _ (c.serve-end.ensures.serves None) c.from.ensures two),
       λ none. absurd (served_command _ _ _ c.in-Ok-Serve.is meant refl none),
     )
 
 pub returns-in-Ok-Serve-clause-nothing : goal.returns-in-Ok-Serve-clause-nothing
 returns-in-Ok-Serve-clause-nothing g c two =
-    absurd (serve_done _ _ _ _ _ _ _ _ _ c.serve.result.end _ (c.serve.ensures.serves None) c.from.ensures two)
+    absurd (serve_done _ _ _ _ _ _ _ _ _ c.serve-end.result.end _ (c.serve-end.ensures.serves None) c.from.ensures two)
 
 pub returns-in-Ok-Serve-clause-output_fault : goal.returns-in-Ok-Serve-clause-output_fault
 returns-in-Ok-Serve-clause-output_fault g c lost =
-    serve_lose _ _ _ _ _ _ _ _ _ c.serve.result.end _ (c.serve.ensures.serves None) c.from.ensures lost
+    serve_lose _ _ _ _ _ _ _ _ _ c.serve-end.result.end _ (c.serve-end.ensures.serves None) c.from.ensures lost
 
 pub returns-in-Ok-Serve-clause-wanting : goal.returns-in-Ok-Serve-clause-wanting
-returns-in-Ok-Serve-clause-wanting g c = serve_wants _ _ _ _ _ _ _ _ _ c.serve.result.end _ (c.serve.ensures.serves None) c.from.ensures
+returns-in-Ok-Serve-clause-wanting g c = serve_wants _ _ _ _ _ _ _ _ _ c.serve-end.result.end _ (c.serve-end.ensures.serves None) c.from.ensures
 
 -- ---- `container`
 
