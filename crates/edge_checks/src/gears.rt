@@ -210,10 +210,16 @@ fn site(alloc: Global) -> Option<Config> {
 fn site_order<'a>(address: &'a Bytes, dir: &'a Bytes, site: &'a Config) -> GearOrder<'a>
     ensures { IsSome result.cfg }
 {
+    let of_none = GearOrder::of_container(address, Some(0));
     GearOrder {
+        address,
+        clients: Some(0),
         journal: Some(dir),
+        log: None,
         cfg: Some(site),
-        ..GearOrder::of_container(address, Some(0))
+        limits: of_none.limits,
+        control: None,
+        grace: of_none.grace,
     }
 }
 
