@@ -34,7 +34,6 @@ use std::rt::{Env, Files};
 use std::sync::Wait;
 use std::thread;
 use std::time::Clock;
-use telling_world::{SiteTeller, TellingWorld};
 
 fn print_text<O: Sink>(out: &mut O, text: &[u8]) -> u8 {
     match write_all(out, text) {
@@ -134,10 +133,8 @@ fn main(rt: HostRuntime) -> ExitCode {
             return ended(&rt, end_of(&rt, &ends));
         }
     }
-    let teller = SiteTeller::of(&asked, rt.stderr());
-    let mut world = TellingWorld::new(RealWorld::new(&rt, threads_of(&asked)), teller);
-    let status = do_outside(&rt, words, &asked, &mut world, rt.stderr());
-    let world = world.into_world();
+    let world = RealWorld::new(&rt, threads_of(&asked));
+    let (status, world) = do_outside(&rt, words, &asked, world, (rt.stderr(), rt.stderr()));
     let_go(asked);
     tell_trouble(&rt, world.trouble());
     end_world(world, status);

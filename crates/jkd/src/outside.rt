@@ -8,6 +8,7 @@ ghost use Rattle.jk_commands.specs.Orders.{IfPlain, IfServed, IsNoCommand};
 ghost use Rattle.jk_commands.specs.Plain.{EndsPlain};
 
 use crate::telling::{asks_stop, reason, tell};
+use crate::telling_world::{SiteTeller, TellingWorld};
 use gear_parts::ToldWorld;
 use gear_worlds::{Trouble, World};
 use jk_cli::{CommandName, Order, WordsError};
@@ -96,7 +97,7 @@ fn tell_ended<'x, E: Write + Drop>(
 }
 
 /// Does the command in this world, over the system's files and streams. Tells a person of it, and answers its status.
-pub(crate) fn do_outside<
+fn do_told<
     W: World,
     E: Write + Drop,
     R: Print + Input + SystemFiles + Net + AllocGlobal + Threads + Wait + Sync,
@@ -133,6 +134,22 @@ where
     let_go(how);
     let_go(files);
     status
+}
+
+/// As `do_told`, in a world that tells first what has no effect in the files of a site that is served. The world comes back.
+/// `errs`: what is told of such files goes to the first, and what is told of the command to the second.
+pub(crate) fn do_outside<
+    W: World + Drop,
+    E: Write + Drop,
+    R: Print + Input + SystemFiles + Net + AllocGlobal + Threads + Wait + Sync,
+>(rt: &R, words: &[Bytes], asked: &Result<Order, WordsError>, world: W, errs: (E, E)) -> (u8, W)
+where
+    <W::D as Door>::L: Send,
+{
+    let (of_site, err) = errs;
+    let mut world = TellingWorld::new(world, SiteTeller::of(asked, of_site));
+    let status = do_told(rt, words, asked, &mut world, err);
+    (status, world.into_world())
 }
 
 /// Tells what failed first in the real world.

@@ -58,7 +58,7 @@ impl<'n, W: World + Drop, E: Write + Drop> TellingWorld<'n, W, E> {
 
     /// The world within.
     pub(crate) fn into_world(self) -> W
-        ensures { result ≡ self.world }
+        ensures { result ≡ self.entry.world }
     {
         let TellingWorld { world, teller: _ } = self;
         world
