@@ -29,3 +29,4 @@ pub record ReadsChunk (most : ℕ) (before after : Moment) (text now : List ℕ)
   pub no_fewer : before.faults ≤ after.faults
   pub steady : IsOk result → after.faults ≡ before.faults
   pub wanted : IsErrOf result file.NoMemory → after.faults ≡ before.faults
+  pub long : IsErrOf result file.TooLong → after.faults ≡ before.faults

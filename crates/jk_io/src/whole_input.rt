@@ -31,6 +31,7 @@ pub fn read_whole<S: Source>(alloc: Global, source: &mut S) -> Result<Bytes, Fil
     ensures no_fewer { S.faults source.old ≤ S.faults source.new }
     ensures steady { IsOk result → S.faults source.new ≡ S.faults source.old }
     ensures wanted { IsErrOf result FileError.NoMemory → S.faults source.new ≡ S.faults source.old }
+    ensures long { IsErrOf result FileError.TooLong → S.faults source.new ≡ S.faults source.old }
     ensures same { (S.sent source.new ≡ S.sent source.old) × (S.beside source.new ≡ S.beside source.old) }
 {
     let mut text = Bytes::new(alloc);
@@ -44,7 +45,8 @@ pub fn read_whole<S: Source>(alloc: Global, source: &mut S) -> Result<Bytes, Fil
     }
 }
 
-// Reads a chunk on, and adds it to the text; answers whether there may be more.
+// Reads a chunk on, and adds it to the text; answers whether there may be more. One byte past
+// the most tells that there are too many, so no more of them is read, and no read after it fails.
 fn read_chunk<S: Source>(
     source: &mut S,
     chunk: &mut [u8],
@@ -56,7 +58,8 @@ fn read_chunk<S: Source>(
         (moment S.incoming S.received S.sent S.faults source.new) text.old text.new result }
     ensures beside { S.beside source.new ≡ S.beside source.old }
 {
-    let filled = fill(source, chunk);
+    let room = chunk.len().min(MAX_INPUT_BYTES + 1 - text.len());
+    let filled = fill(source, &mut chunk[..room]);
     let goes_on = answer_of(filled.stop, text.len() + filled.count)?;
     text.extend(&chunk[..filled.count])?;
     Ok(goes_on)

@@ -38,6 +38,7 @@ returns-in-Err g c =
       no_fewer = rw before.steady at last.no_fewer;
       steady = λ is. cc;
       wanted = λ is. let same : c.in-Err.error ≡ NoMemory = cc in last.wanted (ap Err same) ∙ before.steady;
+      long = λ is. let same : c.in-Err.error ≡ TooLong = cc in last.long (ap Err same) ∙ before.steady;
       same = (last.sent ∙ before.sent, c.in-Err.ensures.beside ∙ before.beside);
     }
 
@@ -54,5 +55,6 @@ returns-in-Ok-false g c =
       no_fewer = rw before.steady at last.no_fewer;
       steady = λ _. last.steady refl ∙ before.steady;
       wanted = λ is. cc;
+      long = λ is. cc;
       same = (last.sent ∙ before.sent, c.in-Ok-false.ensures.beside ∙ before.beside);
     }
