@@ -99,6 +99,7 @@ pub fn read_site<F: Files>(
     ensures ok { IfOk result (λ judged. (incoming : Option (List ℕ))
         → IsJudgedSite (record { files = F.files files.old; incoming = incoming }) workers.now map.now judged) }
     ensures cause { HasCause (F.faults files.old) (F.faults files.new) result }
+    ensures steady { IsOk result → F.faults files.new ≡ F.faults files.old }
 {
     let Some(workers) = text_of(alloc, files, workers)? else {
         return Ok(too_long(alloc)?);
