@@ -3,6 +3,7 @@ pub mod BestLemmas
 pub mod LineLemmas
 pub mod MatchLemmas
 pub mod MemberLemmas
+pub mod NoteLemmas
 pub mod PartLemmas
 pub mod SiteLemmas
 pub mod WorkerLemmas

@@ -160,7 +160,13 @@ refused_line view rules line rest (errors.Refused number code) h =
     with_refused rules line rest (record { line = number; code = code }) h
 refused_line view rules line rest errors.NoMemory h = tt
 
+-- an error is what reading gives, whatever the call makes of the rules
+any_view : {X : Type 0} (view : X → List Rule) (error : MapError) (read : Result (List Rule) LineRefusal) → AnswersMap {X = List Rule} (λ map. map) (Err error) read → AnswersMap view (Err error) read
+any_view view (errors.Refused line code) read h = h
+any_view view errors.NoMemory read h = tt
+
 -- an error that a call hands on
-pub handed_on : (answer : Result (List Rule) MapError) (error : MapError) (read : Result (List Rule) LineRefusal) → IsErrAnd answer (λ e. e ≡ error) → AnswersMap (λ map. map) (Err error) read → AnswersMap (λ map. map) answer read
-handed_on (Ok map) error read h g = absurd h
-handed_on (Err e) error read h g = subst (λ (x : MapError). AnswersMap {X = List Rule} (λ map. map) (Err x) read) (sym h) g
+pub handed_on : {X : Type 0} (view : X → List Rule) (answer : Result X MapError) (error : MapError) (read : Result (List Rule) LineRefusal) → IsErrAnd answer (λ e. e ≡ error)
+    → AnswersMap {X = List Rule} (λ map. map) (Err error) read → AnswersMap view answer read
+handed_on view (Ok x) error read h g = absurd h
+handed_on view (Err e) error read h g = subst (λ (x : MapError). AnswersMap view (Err x) read) (sym h) (any_view view error read g)

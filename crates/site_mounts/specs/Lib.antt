@@ -1,4 +1,5 @@
 pub mod Lines
+pub mod MapNotes
 pub mod Members
 pub mod Mounts
 pub mod PartViews

@@ -1,23 +1,42 @@
 //! Reading a map, line by line.
-ghost use Rattle.std.specs.Prelude.{◌≡◌, ◌≤◌, ◌+◌, ◌++◌, map, length, true, Some, IfOk, OnOk};
+ghost use Rattle.std.specs.Prelude.{◌≡◌, ◌≤◌, ◌+◌, ◌++◌, [], map, length, true, Some, IfOk, OnOk};
 ghost use Rattle.std.specs.Option.{option_map};
 ghost use Rattle.site_config.specs.Properties.{is_silent};
 ghost use Rattle.site_mounts.specs.Lines.{made_rules, read_text, rules_of, said, with_rules};
+ghost use Rattle.site_mounts.specs.MapNotes.{line_notes, map_notes, rule_notes};
 ghost use Rattle.site_mounts.specs.Refusals.{AnswersMap, code_in};
 ghost use Rattle.site_mounts.specs.Sides.{as_patterns};
 ghost use Rattle.site_mounts.specs.Sites.{stands_in};
 ghost use Rattle.jk_io.specs.declared.whole_input.TheConstants.{MAX_INPUT_BYTES};
 
 use crate::error::{MapError, MapReason, refused};
+use crate::map_note::{MapNote, NotedMap};
 use crate::pattern::Pattern;
 use crate::role::role_of;
 use crate::rule::{Role, Rule};
 use crate::side::{Patterns, left_of, patterns_of};
 use crate::uri_map::UriMap;
 use crate::workers::Workers;
-use jk_io::{Bytes, NoMemory, trim};
+use jk_io::{Bytes, ListOf, NoMemory, trim};
 use site_config::{Config, cut_at, first_line, without_mark};
 use std::alloc::Global;
+
+/// The rules and the notes of the lines so far.
+#[derive(Drop)]
+struct LinesRead {
+    rules: Vec<Rule>,
+    notes: Vec<MapNote>,
+}
+
+fn none_read(alloc: Global) -> LinesRead
+    ensures rules { result.rules.items ≡ [] }
+    ensures notes { result.notes.items ≡ [] }
+{
+    LinesRead {
+        rules: Vec::new(alloc),
+        notes: Vec::new(alloc),
+    }
+}
 
 /// The pattern P, or P with S after it.
 fn pattern_with(alloc: Global, first: &[u8], more: &[u8]) -> Result<Pattern, NoMemory>
@@ -63,41 +82,46 @@ fn is_silent(text: &[u8]) -> bool
     text.is_empty() || text[0] == b'#'
 }
 
-/// Adds the rules of a line with these two sides.
+/// Adds the rules and the notes of a line with these two sides.
 fn push_sides(
     alloc: Global,
-    out: &mut Vec<Rule>,
+    out: &mut LinesRead,
     workers: &Workers<'_>,
     line: u32,
     left: &[u8],
     right: &[u8],
 ) -> Result<(), MapError>
-    ensures read { AnswersMap (λ _. out.new.items) result
-        (with_rules out.old.items (rules_of workers.now line (Some (left.now, right.now)))) }
-    ensures count { OnOk result (length out.new.items ≤ length out.old.items + 2) }
+    ensures read { AnswersMap (λ _. out.new.rules.items) result
+        (with_rules out.old.rules.items (rules_of workers.now line (Some (left.now, right.now)))) }
+    ensures noted { OnOk result (out.new.notes.items
+        ≡ out.old.notes.items ++ rule_notes workers.now line (Some (left.now, right.now))) }
+    ensures count { OnOk result (length out.new.rules.items ≤ length out.old.rules.items + 2) }
 {
     let side = left_of(trim(left));
     let Some(patterns) = patterns_of(side.pattern) else {
         return Err(refused(line, MapReason::BadPattern));
     };
-    let role = role_of(alloc, workers, line, side.exclusion, right)?;
+    let mut right = role_of(alloc, workers, line, side.exclusion, right)?;
     if !side.off {
-        push_rules(alloc, out, line, patterns, role)?;
+        push_rules(alloc, &mut out.rules, line, patterns, right.role)?;
+        out.notes.append(&mut right.notes)?;
     }
     Ok(())
 }
 
-/// Adds the rules of a trimmed line.
+/// Adds the rules and the notes of a trimmed line.
 fn push_line(
     alloc: Global,
-    out: &mut Vec<Rule>,
+    out: &mut LinesRead,
     workers: &Workers<'_>,
     line: u32,
     text: &[u8],
 ) -> Result<(), MapError>
-    ensures read { AnswersMap (λ _. out.new.items) result
-        (with_rules out.old.items (said workers.now line text.now)) }
-    ensures count { OnOk result (length out.new.items ≤ length out.old.items + 2) }
+    ensures read { AnswersMap (λ _. out.new.rules.items) result
+        (with_rules out.old.rules.items (said workers.now line text.now)) }
+    ensures noted { OnOk result (out.new.notes.items
+        ≡ out.old.notes.items ++ line_notes workers.now line text.now) }
+    ensures count { OnOk result (length out.new.rules.items ≤ length out.old.rules.items + 2) }
 {
     if is_silent(text) {
         return Ok(());
@@ -117,12 +141,36 @@ pub fn refusal_of(
 ) -> Result<Option<u8>, NoMemory>
     ensures { IfOk result (λ code. code ≡ code_in (said workers.now line text.now)) }
 {
-    let mut rules = Vec::new(alloc);
-    match push_line(alloc, &mut rules, workers, line, text) {
+    let mut read = none_read(alloc);
+    match push_line(alloc, &mut read, workers, line, text) {
         Ok(()) => Ok(None),
         Err(MapError::Refused { code, .. }) => Ok(Some(code)),
         Err(MapError::NoMemory) => Err(NoMemory),
     }
+}
+
+/// The map of a text with the notes on it, or its first refusal.
+pub fn read_rules(alloc: Global, text: &[u8], config: &Config) -> Result<NotedMap, MapError>
+    requires { length text.now ≤ MAX_INPUT_BYTES }
+    ensures read { AnswersMap (λ noted. noted.map) result (read_text config.now text.now) }
+    ensures noted { IfOk result (λ noted. noted.notes ≡ map_notes config.now text.now) }
+
+    // All that the map names stands in the configuration.
+    ensures stands { IfOk result (λ noted. stands_in config.now noted.map ≡ true) }
+{
+    let workers = Workers::new(alloc, config)?;
+    let mut read = none_read(alloc);
+    let mut number: u32 = 0;
+    let mut rest = without_mark(text);
+    while let Some((line, behind)) = first_line(rest) {
+        number += 1;
+        push_line(alloc, &mut read, &workers, number, trim(line))?;
+        rest = behind;
+    }
+    Ok(NotedMap {
+        map: UriMap::from_vec(read.rules),
+        notes: ListOf::from_vec(read.notes),
+    })
 }
 
 /// The map of a text, or its first refusal.
@@ -133,14 +181,5 @@ pub fn read_map(alloc: Global, text: &[u8], config: &Config) -> Result<UriMap, M
     // All that the map names stands in the configuration.
     ensures stands { IfOk result (λ map. stands_in config.now map ≡ true) }
 {
-    let workers = Workers::new(alloc, config)?;
-    let mut rules = Vec::new(alloc);
-    let mut number: u32 = 0;
-    let mut rest = without_mark(text);
-    while let Some((line, behind)) = first_line(rest) {
-        number += 1;
-        push_line(alloc, &mut rules, &workers, number, trim(line))?;
-        rest = behind;
-    }
-    Ok(UriMap::from_vec(rules))
+    read_rules(alloc, text, config).map(|noted| noted.map)
 }

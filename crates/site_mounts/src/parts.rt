@@ -73,7 +73,7 @@ pub(crate) fn parts_behind(
 }
 
 #[tactic(auto, unfolding(crate::specs::Parts::sticky_ignore))]
-fn is_sticky_ignore(name: &[u8]) -> bool
+pub(crate) fn is_sticky_ignore(name: &[u8]) -> bool
     ensures { result ≡ bytes_eq name.now sticky_ignore }
 {
     name == b"sticky_ignore".as_slice()
@@ -81,14 +81,14 @@ fn is_sticky_ignore(name: &[u8]) -> bool
 
 /// Whether the name is that of a list of members.
 #[tactic(auto, unfolding(crate::specs::Parts::disabled, crate::specs::Parts::stopped))]
-fn is_list_name(name: &[u8]) -> bool
+pub(crate) fn is_list_name(name: &[u8]) -> bool
     ensures { result ≡ (bytes_eq name.now disabled || bytes_eq name.now stopped) }
 {
     name == b"disabled".as_slice() || name == b"stopped".as_slice()
 }
 
 #[tactic(auto, unfolding(crate::specs::Parts::reply_timeout))]
-fn is_reply_timeout(name: &[u8]) -> bool
+pub(crate) fn is_reply_timeout(name: &[u8]) -> bool
     ensures { result ≡ bytes_eq name.now reply_timeout }
 {
     name == b"reply_timeout".as_slice()

@@ -1,12 +1,14 @@
 //! The right side of a rule: its worker, and the parts after it.
-ghost use Rattle.std.specs.Prelude.{◌≡◌, ◌∷◌, IfOk};
-ghost use Rattle.std.specs.Option.{option_map, option_and_then};
-ghost use Rattle.site_mounts.specs.Lines.{exclusion_of, known, mount_of, role_of, terms_at};
+ghost use Rattle.std.specs.Prelude.{◌≡◌, ◌∷◌, IfOk, Ok};
+ghost use Rattle.std.specs.Option.{option_map};
+ghost use Rattle.site_mounts.specs.Lines.{exclusion_of, known, mount_of, mount_with, role_of, terms_at};
+ghost use Rattle.site_mounts.specs.MapNotes.{mount_notes, role_notes};
 ghost use Rattle.site_mounts.specs.PartViews.{as_parts};
-ghost use Rattle.site_mounts.specs.Parts.{parts_of, pieces_behind, pieces_of};
+ghost use Rattle.site_mounts.specs.Parts.{pieces_behind, pieces_of};
 ghost use Rattle.site_mounts.specs.Refusals.{AnswersMap};
 
 use crate::error::{MapError, MapReason, refused};
+use crate::map_note::{MapNote, exclusion_notes, worker_notes};
 use crate::parts::{Part, given_terms, parts_behind};
 use crate::rule::{Mount, Role};
 use crate::workers::Workers;
@@ -14,6 +16,13 @@ use jk_io::{NoMemory, trim};
 use lb_model::Terms;
 use site_config::{Named, cut_at};
 use std::alloc::Global;
+
+/// What a right side says, and the notes on it.
+#[derive(Drop)]
+pub(crate) struct RightSide {
+    pub(crate) role: Role,
+    pub(crate) notes: Vec<MapNote>,
+}
 
 /// The listed worker of this name.
 fn known(workers: &Workers<'_>, line: u32, name: &[u8]) -> Result<Named, MapError>
@@ -50,20 +59,28 @@ fn terms_at(
     }
 }
 
-/// The terms that the text after a worker gives; none where a part isn't good.
-fn terms_behind(
+/// A mount at this worker, with the parts after it.
+fn mount_at(
     alloc: Global,
     workers: &Workers<'_>,
+    line: u32,
     worker: Named,
     text: Option<&[u8]>,
-) -> Result<Option<Terms>, NoMemory>
-    ensures { IfOk result (λ terms. terms ≡ option_and_then (terms_at workers.now worker)
-        (parts_of (pieces_behind (option_map (λ t. t.now) text.entry)))) }
+) -> Result<RightSide, MapError>
+    ensures role { AnswersMap (λ right. right.role) result (mount_with workers.now line
+        (pieces_behind (option_map (λ t. t.now) text.entry)) (Ok worker)) }
+    ensures notes { IfOk result (λ right. right.notes.items ≡ mount_notes line
+        (pieces_behind (option_map (λ t. t.now) text.entry)) (Ok worker)) }
 {
-    match parts_behind(alloc, text)? {
-        Some(parts) => terms_at(alloc, workers, worker, parts.as_slice()),
-        None => Ok(None),
-    }
+    let Some(parts) = parts_behind(alloc, text)? else {
+        return Err(refused(line, MapReason::BadExtension));
+    };
+    let Some(terms) = terms_at(alloc, workers, worker, parts.as_slice())? else {
+        return Err(refused(line, MapReason::BadExtension));
+    };
+    let role = Role::Mount(Mount { worker, terms });
+    let notes = worker_notes(alloc, line, worker, parts.as_slice())?;
+    Ok(RightSide { role, notes })
 }
 
 fn mount_of(
@@ -72,15 +89,14 @@ fn mount_of(
     line: u32,
     name: &[u8],
     text: Option<&[u8]>,
-) -> Result<Role, MapError>
-    ensures { AnswersMap (λ role. role) result (mount_of workers.now line name.now
+) -> Result<RightSide, MapError>
+    ensures role { AnswersMap (λ right. right.role) result (mount_of workers.now line name.now
         (pieces_behind (option_map (λ t. t.now) text.entry))) }
+    ensures notes { IfOk result (λ right. right.notes.items ≡ mount_notes line
+        (pieces_behind (option_map (λ t. t.now) text.entry)) (known workers.now line name.now)) }
 {
     let worker = known(workers, line, name)?;
-    match terms_behind(alloc, workers, worker, text)? {
-        Some(terms) => Ok(Role::Mount(Mount { worker, terms })),
-        None => Err(refused(line, MapReason::BadExtension)),
-    }
+    mount_at(alloc, workers, line, worker, text)
 }
 
 /// The worker's text, and what follows the first `;`.
@@ -100,12 +116,16 @@ pub(crate) fn role_of(
     line: u32,
     exclusion: bool,
     text: &[u8],
-) -> Result<Role, MapError>
-    ensures { AnswersMap (λ role. role) result (role_of workers.now line exclusion text.now) }
+) -> Result<RightSide, MapError>
+    ensures role { AnswersMap (λ right. right.role) result (role_of workers.now line exclusion text.now) }
+    ensures notes { IfOk result (λ right. right.notes.items
+        ≡ role_notes workers.now line exclusion (pieces_of text.now)) }
 {
     let (name, parts) = split_parts(text);
     if exclusion {
-        exclusion_of(workers, line, trim(name))
+        let role = exclusion_of(workers, line, trim(name))?;
+        let notes = exclusion_notes(alloc, line, parts)?;
+        Ok(RightSide { role, notes })
     } else {
         mount_of(alloc, workers, line, trim(name), parts)
     }
