@@ -1,5 +1,5 @@
 -- The answers that the connector makes itself: a status line, three lines or four, and the status once more as the body.
-use Rattle.std.specs.Prelude.{ℕ, ◌==◌, List, ◌++◌, length, Option, Some, None, codes, if◌then◌else◌}
+use Rattle.std.specs.Prelude.{ℕ, ◌==◌, List, ◌++◌, length, Option, Some, None, codes, unwrap_or, if◌then◌else◌}
 use Rattle.std.specs.Fmt.{decimal}
 use Rattle.httpdate.specs.declared.date.HttpDate.{HttpDate}
 use Rattle.http_out.specs.Dates.{date_field}
@@ -60,3 +60,7 @@ own_of status =
     (if status == 501 then Some Own.NotImplemented else
     (if status == 502 then Some Own.BadGateway else
     (if status == 503 then Some Own.ServiceUnavailable else None))))))))
+
+-- the answer with that status, and 500 where none has it
+abbrev pub own_with : ℕ → Own
+own_with status = unwrap_or (own_of status) Own.InternalServerError

@@ -20,7 +20,7 @@ mod reply_writer;
 
 pub use dates::put_date;
 pub use framing::RequestKind;
-pub use own_answers::{OwnAnswer, OwnKind, own_answer, own_body};
+pub use own_answers::{Own, OwnAnswer, OwnKind, own_answer, own_body};
 pub use reply_head::{OutError, ReplyHead};
 pub use reply_laws::{replies_end_whole, replies_grow_by_chunks, what_is_written_stays_a_prefix};
 pub use reply_writer::ReplyWriter;

@@ -52,19 +52,62 @@ impl OwnAnswer {
     }
 }
 
-/// The whole answer with a status of 400, 403, 404, 413, 431, 500, 501, 502 or 503, which closes the connection; for a
-/// request with HEAD without its body. No memory is taken.
+impl Own {
+    ghost use Rattle.std.specs.Prelude.{◌≡◌};
+    ghost use Rattle.http_out.specs.Own.{own_bytes, own_with, status_of};
+
+    /// The answer with this status; 500 where none has it.
+    pub fn with_status(status: u16) -> Own
+        ensures { result ≡ own_with status }
+    {
+        match status {
+            400 => Own::BadRequest,
+            403 => Own::Forbidden,
+            404 => Own::NotFound,
+            413 => Own::ContentTooLarge,
+            431 => Own::FieldsTooLarge,
+            501 => Own::NotImplemented,
+            502 => Own::BadGateway,
+            503 => Own::ServiceUnavailable,
+            _ => Own::InternalServerError,
+        }
+    }
+
+    pub fn status(self) -> u16
+        ensures { result ≡ status_of self }
+    {
+        match self {
+            Own::BadRequest => 400,
+            Own::Forbidden => 403,
+            Own::NotFound => 404,
+            Own::ContentTooLarge => 413,
+            Own::FieldsTooLarge => 431,
+            Own::InternalServerError => 500,
+            Own::NotImplemented => 501,
+            Own::BadGateway => 502,
+            Own::ServiceUnavailable => 503,
+        }
+    }
+
+    /// The whole answer, which closes the connection; for a request with HEAD without its body. No memory is taken.
+    pub fn answer(self, kind: OwnKind) -> OwnAnswer
+        ensures { result ≡ own_bytes self kind }
+    {
+        let mut bytes = ArrayVec::new();
+        put_head(&mut bytes, self, kind.date);
+        if !kind.head_only {
+            put(&mut bytes, body_of(self));
+        }
+        OwnAnswer { bytes }
+    }
+}
+
+/// The whole answer with a status of 400, 403, 404, 413, 431, 500, 501, 502 or 503.
 pub fn own_answer(status: u16, kind: OwnKind) -> OwnAnswer
     requires { IsSome (own_of status) }
     ensures { IfSome (own_of status) (λ own. result ≡ own_bytes own kind) }
 {
-    let own = own_with(status);
-    let mut bytes = ArrayVec::new();
-    put_head(&mut bytes, own, kind.date);
-    if !kind.head_only {
-        put(&mut bytes, body_of(own));
-    }
-    OwnAnswer { bytes }
+    Own::with_status(status).answer(kind)
 }
 
 /// The body of that answer.
@@ -72,7 +115,7 @@ pub fn own_body(status: u16) -> &'static [u8]
     requires { IsSome (own_of status) }
     ensures { IfSome (own_of status) (λ own. result.now ≡ own_body own) }
 {
-    body_of(own_with(status))
+    body_of(Own::with_status(status))
 }
 
 /// Adds bytes for which there is room.
@@ -108,24 +151,6 @@ fn put_head(answer: &mut ArrayVec<u8, 192>, own: Own, date: Option<HttpDate>)
     put(answer, lines_of(own));
     put_date(answer, date);
     put(answer, b"Connection: close\r\n\r\n");
-}
-
-fn own_with(status: u16) -> Own
-    requires { IsSome (own_of status) }
-    ensures { own_of status ≡ Some result }
-{
-    match status {
-        400 => Own::BadRequest,
-        403 => Own::Forbidden,
-        404 => Own::NotFound,
-        413 => Own::ContentTooLarge,
-        431 => Own::FieldsTooLarge,
-        500 => Own::InternalServerError,
-        501 => Own::NotImplemented,
-        502 => Own::BadGateway,
-        503 => Own::ServiceUnavailable,
-        _ => unreachable!(),
-    }
 }
 
 /// The status line, and the lines that tell type and length.
