@@ -207,7 +207,7 @@ module _ (plan : TalkPlan) (l m n : Moment) (w v u : Moment) (c d e : Course) (c
   chunk-silent chunk (turn_is.LostAtEnd reuse) failed h = absurd h
   chunk-silent chunk turn_is.Unread failed h = absurd h
   chunk-silent chunk turn_is.Cut failed h = absurd h
-  chunk-silent chunk (turn_is.Bad status) failed h = absurd h
+  chunk-silent chunk (turn_is.Bad own) failed h = absurd h
   chunk-silent chunk turn_is.NoMemory failed h = same-put (chunk_bytes d.writer chunk) (no-chunk-bytes d.writer chunk failed) h.3
 
   pub chunk-counts : (chunk : List ℕ) (turn : Turn) → (turn ≡ turn_is.NoMemory → ⊥) → IsChunkTurn plan chunk read_to e v u turn → (e.received ≡ count) × (e.sent ≡ d.sent)
@@ -224,7 +224,7 @@ module _ (plan : TalkPlan) (l m n : Moment) (w v u : Moment) (c d e : Course) (c
   chunk-counts chunk (turn_is.LostAtEnd reuse) other h = absurd h
   chunk-counts chunk turn_is.Unread other h = absurd h
   chunk-counts chunk turn_is.Cut other h = absurd h
-  chunk-counts chunk (turn_is.Bad status) other h = absurd h
+  chunk-counts chunk (turn_is.Bad own) other h = absurd h
   chunk-counts chunk turn_is.NoMemory other h = absurd (other refl)
 
   pub end-silent : (reuse : Bool) (turn : Turn) → d.writer.failed ≡ true → IsEndTurn reuse read_to e v u turn → u.sent ≡ v.sent
@@ -241,7 +241,7 @@ module _ (plan : TalkPlan) (l m n : Moment) (w v u : Moment) (c d e : Course) (c
   end-silent reuse (turn_is.LostAtEnd again) failed h = same-put (end_bytes d.writer) (no-end-bytes d.writer failed) h.3
   end-silent reuse turn_is.Unread failed h = absurd h
   end-silent reuse turn_is.Cut failed h = absurd h
-  end-silent reuse (turn_is.Bad status) failed h = absurd h
+  end-silent reuse (turn_is.Bad own) failed h = absurd h
   end-silent reuse turn_is.NoMemory failed h = same-put (end_bytes d.writer) (no-end-bytes d.writer failed) h.3
 
   pub end-counts : (reuse : Bool) (turn : Turn) → (turn ≡ turn_is.NoMemory → ⊥) → IsEndTurn reuse read_to e v u turn → (e.received ≡ count) × (e.sent ≡ d.sent)
@@ -258,7 +258,7 @@ module _ (plan : TalkPlan) (l m n : Moment) (w v u : Moment) (c d e : Course) (c
   end-counts reuse (turn_is.LostAtEnd again) other h = (ap (λ (x : Course). x.received) h.5, ap (λ (x : Course). x.sent) h.5)
   end-counts reuse turn_is.Unread other h = absurd h
   end-counts reuse turn_is.Cut other h = absurd h
-  end-counts reuse (turn_is.Bad status) other h = absurd h
+  end-counts reuse (turn_is.Bad own) other h = absurd h
   end-counts reuse turn_is.NoMemory other h = absurd (other refl)
 
   -- one more chunk was dropped
@@ -426,7 +426,7 @@ module _ (plan : TalkPlan) (l m n : Moment) (w v u : Moment) (c d e : Course) (c
   chunk-stops a chunk (turn_is.LostAtEnd reuse) want on lost h = absurd h
   chunk-stops a chunk turn_is.Unread want on lost h = absurd h
   chunk-stops a chunk turn_is.Cut want on lost h = absurd h
-  chunk-stops a chunk (turn_is.Bad status) want on lost h = absurd h
+  chunk-stops a chunk (turn_is.Bad own) want on lost h = absurd h
   chunk-stops a chunk turn_is.NoMemory want on lost h = absurd (want refl)
 
   pub chunk_over : IsPlan plan → Draining plan l m w v c d → (chunk : List ℕ) (turn : Turn) → (turn ≡ turn_is.NoMemory → ⊥) → (turn ≡ turn_is.On → ⊥) → (turn ≡ turn_is.Lost → ⊥)
@@ -465,7 +465,7 @@ module _ (plan : TalkPlan) (l m n : Moment) (w v u : Moment) (c d e : Course) (c
   at_chunk fit a chunk want (turn_is.LostAtEnd reuse) h t = absurd t
   at_chunk fit a chunk want turn_is.Unread h t = absurd t
   at_chunk fit a chunk want turn_is.Cut h t = absurd t
-  at_chunk fit a chunk want (turn_is.Bad status) h t = absurd t
+  at_chunk fit a chunk want (turn_is.Bad own) h t = absurd t
   at_chunk fit a chunk want turn_is.NoMemory h t = absurd (let failed = a.lost.failed in let well = t.1 in cc)
 
   at_end : IsPlan plan → Draining plan l m w v c d → (reuse : Bool) (want : NoMemory) (turn : Turn) → IsHeard plan.packet plan.most m n d.received count (End reuse)
@@ -479,7 +479,7 @@ module _ (plan : TalkPlan) (l m n : Moment) (w v u : Moment) (c d e : Course) (c
       subst (λ (keep : Bool). Drains plan l n w u c e keep false) (sym t.0) (drained_lost_end plan l m n w v u c d e count fit a reuse again h t)
   at_end fit a reuse want turn_is.Unread h t = absurd t
   at_end fit a reuse want turn_is.Cut h t = absurd t
-  at_end fit a reuse want (turn_is.Bad status) h t = absurd t
+  at_end fit a reuse want (turn_is.Bad own) h t = absurd t
   at_end fit a reuse want turn_is.NoMemory h t = absurd (let failed = a.lost.failed in let well = t.1 in cc)
 
   at_other : IsPlan plan → (a : Draining plan l m w v c d) (message : Message) (answer : Result (Option Bool) NoMemory) → (message ≡ End true → ⊥) → EndsRest c a.chunks message
@@ -530,7 +530,7 @@ drop_more plan l m n w v u c d e fit a (inl t) =
     of chunk want (turn_is.LostAtEnd reuse) is h = absurd h
     of chunk want turn_is.Unread is h = absurd h
     of chunk want turn_is.Cut is h = absurd h
-    of chunk want (turn_is.Bad status) is h = absurd h
+    of chunk want (turn_is.Bad own) is h = absurd h
     of chunk want turn_is.NoMemory is h = absurd cc
 
     ended : (reuse : Bool) (want : NoMemory) (turn : Turn) → Ok None ≡ rest_after want turn → IsEndTurn reuse (record d { received = t.count }) e v u turn → e.received ≡ t.count
@@ -541,7 +541,7 @@ drop_more plan l m n w v u c d e fit a (inl t) =
     ended reuse want (turn_is.LostAtEnd again) is h = absurd cc
     ended reuse want turn_is.Unread is h = absurd h
     ended reuse want turn_is.Cut is h = absurd h
-    ended reuse want (turn_is.Bad status) is h = absurd h
+    ended reuse want (turn_is.Bad own) is h = absurd h
     ended reuse want turn_is.NoMemory is h = absurd cc
 
     counted : (message : Message) → IsDroppedMessage plan message (record d { received = t.count }) e v u (Ok None) → e.received ≡ t.count

@@ -11,6 +11,8 @@ use Rattle.ajp_reply.specs.declared.message.Message.TheVariants.{Headers, Chunk,
 use Rattle.ajp_reply.specs.Stream.{IsFront, IsForm, head_of, Spelled}
 use Rattle.http_front.specs.Body.{Data, reaches, behind, dropped}
 use Rattle.http_front.specs.State.{taken_of, most_of}
+use Rattle.http_out.specs.Own.{status_of}
+use Rattle.http_out.specs.declared.own_answers.Own.{Own}
 use Rattle.http_out.specs.Writer.{Writer, IsOpenReply, chunk_bytes, end_bytes}
 use Rattle.jk_io.specs.Moments.{Moment}
 use Rattle.ajp_talk.specs.Moments.{BodyAt, TalkMoment, data_at, Traffic, IsSteady, TakesOfBody, IsUsed, IsFrontOf}
@@ -323,13 +325,13 @@ module _ (plan : TalkPlan) (s m n : TalkMoment) (c c' : Course) where
   bad-why a ask status fit (inl h) = inl (h.0, asked-of a ask true fit h.1)
   bad-why a ask status fit (inr h) = inr (h.0, takes-limited s.body m.body a.stands.taken a.stands.takes h.1, limit-of a (want plan.piece ask) h.2)
 
-  bad_message : (a : At plan s m c) (status : ℕ) (message : Message) (mid : Moment) (count : ℕ) → IsPlan plan → IsHeard plan.packet plan.most m.line mid c.received count message
-      → Acts plan message (read_to count) c' mid n.line m.client n.client m.body n.body (turn_is.Bad status)
-      → HasBadBody plan s n status (told_end c') c'.writer.passed (bytes_end c')
-  bad_message a status (Headers parts) mid count fit h acts = absurd acts.0
-  bad_message a status (Chunk chunk) mid count fit h acts = absurd acts.0
-  bad_message a status (End reuse) mid count fit h acts = absurd acts.0
-  bad_message a status (Ask ask) mid count fit h acts =
+  bad_message : (a : At plan s m c) (own : Own) (message : Message) (mid : Moment) (count : ℕ) → IsPlan plan → IsHeard plan.packet plan.most m.line mid c.received count message
+      → Acts plan message (read_to count) c' mid n.line m.client n.client m.body n.body (turn_is.Bad own)
+      → HasBadBody plan s n (status_of own) (told_end c') c'.writer.passed (bytes_end c')
+  bad_message a own (Headers parts) mid count fit h acts = absurd acts.0
+  bad_message a own (Chunk chunk) mid count fit h acts = absurd acts.0
+  bad_message a own (End reuse) mid count fit h acts = absurd acts.0
+  bad_message a own (Ask ask) mid count fit h acts =
       let st = a.stands in
       let nx = next plan s m mid c count (Ask ask) a.past a.came a.put fit st a.opened a.steady h in
       let u = sends-none a ask count mid h.bytes fit nx acts.0.0 acts.1 in
@@ -345,17 +347,17 @@ module _ (plan : TalkPlan) (s m n : TalkMoment) (c c' : Course) where
         sent = a.owed;
         steady = acts.0.1 ∙ nx.steady;
         written = acts.2 ∙ st.written;
-        why = bad-why a ask status fit acts.0.3;
+        why = bad-why a ask (status_of own) fit acts.0.3;
         told_is = ap told_end acts.1 ∙ tells plan s m c a.past a.came a.put st;
         passed_is = ap (λ (x : Course). x.writer.passed) acts.1 ∙ passed-is plan s m c a.past a.came a.put st;
         counted = bytes-are c' a.put (pong_of plan ++ (a.came ++ h.bytes)) u.1 u.2 (few-sent plan s m c a.past a.came a.put fit st) (omega (arith, u.3, fit.most));
         body = used-then s.body m.body n.body (used-takes s.body m.body st.taken st.takes) acts.0.2;
       }
-  bad_message a status Pong mid count fit h acts = absurd (let e = acts.0 in cc)
+  bad_message a own Pong mid count fit h acts = absurd (let e = acts.0 in cc)
 
-  pub bad : (a : At plan s m c) (status : ℕ) → IsPlan plan → IsTurn plan m n c c' (turn_is.Bad status) → HasBadBody plan s n status (told_end c') c'.writer.passed (bytes_end c')
-  bad a status fit (inl t) = absurd (no_turn t.why (turn_is.Bad status) t.turn_is (λ cause e. absurd cc) (λ e. absurd cc))
-  bad a status fit (inr t) = bad_message a status t.message t.mid t.count fit t.heard t.acts
+  pub bad : (a : At plan s m c) (own : Own) → IsPlan plan → IsTurn plan m n c c' (turn_is.Bad own) → HasBadBody plan s n (status_of own) (told_end c') c'.writer.passed (bytes_end c')
+  bad a own fit (inl t) = absurd (no_turn t.why (turn_is.Bad own) t.turn_is (λ cause e. absurd cc) (λ e. absurd cc))
+  bad a own fit (inr t) = bad_message a own t.message t.mid t.count fit t.heard t.acts
 
   -- ---- memory was wanted
 

@@ -32,7 +32,7 @@ ended_talk plan s m n c c' want taken turn a fit first line client counted over 
     of (turn_is.LostAtEnd reuse) over stays t = lost_at_end plan s m n c c' a reuse (reuse && not plan.close_on_client) fit client refl t
     of turn_is.Unread over stays t = unread plan s m n c c' a fit client t
     of turn_is.Cut over stays t = cut plan s m n c c' a fit t
-    of (turn_is.Bad status) over stays t = bad plan s m n c c' a status fit t
+    of (turn_is.Bad own) over stays t = bad plan s m n c c' a own fit t
     of turn_is.NoMemory over stays t = inl (wanted plan s m n c c' a fit t)
 
 same-moment : (n p : TalkMoment) → p.line ≡ n.line → p.client ≡ n.client → p.body ≡ n.body → p ≡ n
@@ -61,7 +61,7 @@ calm_turn want plan c taken turn_is.Lost stays calm = absurd (stays refl)
 calm_turn want plan c taken (turn_is.LostAtEnd reuse) stays calm = calm
 calm_turn want plan c taken turn_is.Unread stays calm = calm
 calm_turn want plan c taken turn_is.Cut stays calm = tt
-calm_turn want plan c taken (turn_is.Bad status) stays calm = tt
+calm_turn want plan c taken (turn_is.Bad own) stays calm = tt
 calm_turn want plan c taken turn_is.NoMemory stays calm = calm
 
 -- and none where a write to the client failed

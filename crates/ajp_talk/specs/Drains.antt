@@ -98,7 +98,7 @@ rest_after want turn_is.Lost = Ok None
 rest_after want (turn_is.LostAtEnd reuse) = Ok (Some reuse)
 rest_after want turn_is.Unread = Ok (Some false)
 rest_after want turn_is.Cut = Ok (Some false)
-rest_after want (turn_is.Bad status) = Ok (Some false)
+rest_after want (turn_is.Bad own) = Ok (Some false)
 rest_after want turn_is.NoMemory = Err want
 
 -- no message came: the link is to be closed

@@ -1,6 +1,8 @@
 -- How a talk's answer is made from how far it had come; and what a plan keeps.
 use Rattle.std.specs.Prelude.{ℕ, ◌^◌, ◌<◌, ◌≤◌, Bool, true, false, ◌&&◌, not, nat_le, nat_lt, length, Option, Some, None, Result, Ok, Err, if◌then◌else◌}
 use Rattle.http_front.specs.Walks.{counted}
+use Rattle.http_out.specs.Own.{status_of}
+use Rattle.http_out.specs.declared.own_answers.Own.{Own}
 use Rattle.ajp_talk.specs.Owed.{opening, IsSealed}
 use Rattle.ajp_talk.specs.declared.plan.TalkPlan.{TalkPlan}
 use Rattle.ajp_talk.specs.declared.course.Course.{Course}
@@ -48,8 +50,8 @@ done_end c reuse = ends.Done c.told reuse (bytes_end c)
 abbrev pub gone_end : Course → Bool → Bool → TalkEnd
 gone_end c truncated keep = ends.ClientGone truncated keep (bytes_end c)
 
-abbrev pub bad_end : Course → ℕ → TalkEnd
-bad_end c status = ends.BadBody status (told_end c) c.writer.passed (bytes_end c)
+abbrev pub bad_end : Course → Own → TalkEnd
+bad_end c own = ends.BadBody (status_of own) (told_end c) c.writer.passed (bytes_end c)
 
 -- The end that a turn makes. None ends where the talk goes on, and what comes of a lost client is said apart.
 abbrev pub ended_by : NoMemory → TalkPlan → Course → ℕ → Turn → Result TalkEnd NoMemory
@@ -60,7 +62,7 @@ ended_by want plan c taken turn_is.Lost = Err want
 ended_by want plan c taken (turn_is.LostAtEnd reuse) = Ok (gone_end c false (reuse && not plan.close_on_client))
 ended_by want plan c taken turn_is.Unread = Ok (gone_end c false false)
 ended_by want plan c taken turn_is.Cut = Ok (gone_end c true false)
-ended_by want plan c taken (turn_is.Bad status) = Ok (bad_end c status)
+ended_by want plan c taken (turn_is.Bad own) = Ok (bad_end c own)
 ended_by want plan c taken turn_is.NoMemory = Err want
 
 -- a talk that failed before a CPong came

@@ -15,6 +15,8 @@ use Rattle.http_front.specs.Walks.{counted}
 use Rattle.http_front.specs.declared.fault.BodyFault.{BodyFault}
 use Rattle.http_front.specs.declared.fault.BodyFault.TheVariants as fault
 use Rattle.http_out.specs.Framing.{has_no_body, is_beyond, is_complete}
+use Rattle.http_out.specs.Own.{status_of}
+use Rattle.http_out.specs.declared.own_answers.Own.{Own}
 use Rattle.http_out.specs.Writer.{Writer, IsOpenReply, framing_now, after_head, after_chunk, after_end, chunk_bytes, end_bytes}
 use Rattle.http_out.specs.Writer.{counted as counted_chunk}
 use Rattle.jk_io.specs.Moments.{Moment}
@@ -41,8 +43,8 @@ turn_of unheard_is.NoMemory = turn_is.NoMemory
 
 abbrev pub fault_turn : BodyFault → Turn
 fault_turn fault.Truncated = turn_is.Cut
-fault_turn fault.BadChunk = turn_is.Bad 400
-fault_turn fault.TooLong = turn_is.Bad 413
+fault_turn fault.BadChunk = turn_is.Bad Own.BadRequest
+fault_turn fault.TooLong = turn_is.Bad Own.ContentTooLarge
 fault_turn fault.Fault = turn_is.Unread
 fault_turn fault.NoMemory = turn_is.NoMemory
 
@@ -171,7 +173,7 @@ IsHeadTurn plan parts c c' turn_is.Lost = ⊥
 IsHeadTurn plan parts c c' (turn_is.LostAtEnd reuse) = ⊥
 IsHeadTurn plan parts c c' turn_is.Unread = ⊥
 IsHeadTurn plan parts c c' turn_is.Cut = ⊥
-IsHeadTurn plan parts c c' (turn_is.Bad status) = ⊥
+IsHeadTurn plan parts c c' (turn_is.Bad own) = ⊥
 IsHeadTurn plan parts c c' turn_is.NoMemory = Unit {0}
 
 -- ---- Send Body Chunk and End Response
@@ -217,7 +219,7 @@ IsChunkTurn plan chunk c c' w w' turn_is.Lost =
 IsChunkTurn plan chunk c c' w w' (turn_is.LostAtEnd reuse) = ⊥
 IsChunkTurn plan chunk c c' w w' turn_is.Unread = ⊥
 IsChunkTurn plan chunk c c' w w' turn_is.Cut = ⊥
-IsChunkTurn plan chunk c c' w w' (turn_is.Bad status) = ⊥
+IsChunkTurn plan chunk c c' w w' (turn_is.Bad own) = ⊥
 IsChunkTurn plan chunk c c' w w' turn_is.NoMemory =
     (c.headers ≡ true) × (c.writer.failed ≡ false) × (is_beyond (framing_now c.writer) (length chunk) ≡ false) × PutsFront w.sent w'.sent (chunk_bytes c.writer chunk)
 
@@ -233,7 +235,7 @@ IsEndTurn reuse c c' w w' (turn_is.LostAtEnd again) =
     × PutsFront w.sent w'.sent (end_bytes c.writer) × Rose w.faults w'.faults × (c' ≡ record c { writer = c'.writer })
 IsEndTurn reuse c c' w w' turn_is.Unread = ⊥
 IsEndTurn reuse c c' w w' turn_is.Cut = ⊥
-IsEndTurn reuse c c' w w' (turn_is.Bad status) = ⊥
+IsEndTurn reuse c c' w w' (turn_is.Bad own) = ⊥
 IsEndTurn reuse c c' w w' turn_is.NoMemory =
     (c.headers ≡ true) × (c.writer.failed ≡ false) × (is_complete (framing_now c.writer) ≡ true) × PutsFront w.sent w'.sent (end_bytes c.writer)
 
@@ -272,7 +274,7 @@ IsAskTurn n s s' sent sent' (turn_is.LostAtEnd reuse) = ⊥
 IsAskTurn n s s' sent sent' turn_is.Unread = Sends s.line s'.line sent sent' [] × IsUsed s.body s'.body × Rose s.client.faults s'.client.faults
 IsAskTurn n s s' sent sent' turn_is.Cut =
     Sends s.line s'.line sent sent' [] × IsSteady s.line s'.line × IsUsed s.body s'.body × IfSome (data_at s.body) (λ d. (reaches n d ≡ false) × (d.bad ≡ false))
-IsAskTurn n s s' sent sent' (turn_is.Bad status) = Sends s.line s'.line sent sent' [] × IsSteady s.line s'.line × IsUsed s.body s'.body × IsBadBody s.body n status
+IsAskTurn n s s' sent sent' (turn_is.Bad own) = Sends s.line s'.line sent sent' [] × IsSteady s.line s'.line × IsUsed s.body s'.body × IsBadBody s.body n (status_of own)
 IsAskTurn n s s' sent sent' turn_is.NoMemory =
     (put : List ℕ) × Sends s.line s'.line sent sent' put × IsSteady s.line s'.line × IsUsed s.body s'.body
     × IfSome (data_at s.body) (λ d. IsFrontOf put (answer n d))
@@ -325,5 +327,5 @@ IsCalmTurn turn_is.Lost = ⊥
 IsCalmTurn (turn_is.LostAtEnd reuse) = ⊥
 IsCalmTurn turn_is.Unread = ⊥
 IsCalmTurn turn_is.Cut = Unit {0}
-IsCalmTurn (turn_is.Bad status) = Unit {0}
+IsCalmTurn (turn_is.Bad own) = Unit {0}
 IsCalmTurn turn_is.NoMemory = Unit {0}

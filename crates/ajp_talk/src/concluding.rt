@@ -11,6 +11,7 @@ use crate::ending::{Cause, TalkEnd, Told};
 use crate::plan::TalkPlan;
 use crate::turn::{Turn, Unheard};
 use ajp_reply::Stage;
+use http_out::Own;
 use jk_io::NoMemory;
 
 /// The bytes of a CPing: a packet's head and one byte.
@@ -30,7 +31,7 @@ impl Course {
             Turn::LostAtEnd { reuse } => Ok(self.gone(false, is_kept(plan, reuse))),
             Turn::Unread => Ok(self.gone(false, false)),
             Turn::Cut => Ok(self.gone(true, false)),
-            Turn::Bad { status } => Ok(self.bad(status)),
+            Turn::Bad(own) => Ok(self.bad(own)),
             Turn::NoMemory => Err(NoMemory),
             Turn::On | Turn::Lost => unreachable!(),
         }
@@ -77,11 +78,11 @@ impl Course {
     }
 
     /// The body is bad.
-    fn bad(&self, status: u16) -> TalkEnd
-        ensures { result ≡ bad_end self.now status }
+    fn bad(&self, own: Own) -> TalkEnd
+        ensures { result ≡ bad_end self.now own }
     {
         TalkEnd::BadBody {
-            status,
+            status: own.status(),
             told: self.told_if_passed(),
             passed: self.writer.passed(),
             bytes: self.bytes(),

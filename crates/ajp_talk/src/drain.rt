@@ -90,7 +90,7 @@ fn rest_after(turn: Turn) -> Result<Option<bool>, NoMemory>
     match turn {
         Turn::On | Turn::Lost => Ok(None),
         Turn::Done { reuse } | Turn::LostAtEnd { reuse } => Ok(Some(reuse)),
-        Turn::Failed(_) | Turn::Unread | Turn::Cut | Turn::Bad { .. } => Ok(Some(false)),
+        Turn::Failed(_) | Turn::Unread | Turn::Cut | Turn::Bad(_) => Ok(Some(false)),
         Turn::NoMemory => Err(NoMemory),
     }
 }

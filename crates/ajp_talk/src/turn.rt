@@ -5,6 +5,7 @@ ghost use Rattle.ajp_talk.specs.Turns.{turn_of as turn_for, fault_turn as turn_b
 
 use crate::ending::Cause;
 use http_front::BodyFault;
+use http_out::Own;
 
 /// What became of a talk with one more message.
 #[derive(Clone, Copy, PartialEq, Eq)]
@@ -22,8 +23,8 @@ pub(crate) enum Turn {
     Unread,
     /// The client's bytes ended within the body.
     Cut,
-    /// The body is bad.
-    Bad { status: u16 },
+    /// The body is bad; this answer says how.
+    Bad(Own),
     NoMemory,
 }
 
@@ -59,8 +60,8 @@ pub(crate) fn fault_turn(fault: BodyFault) -> Turn
 {
     match fault {
         BodyFault::Truncated => Turn::Cut,
-        BodyFault::BadChunk => Turn::Bad { status: 400 },
-        BodyFault::TooLong => Turn::Bad { status: 413 },
+        BodyFault::BadChunk => Turn::Bad(Own::BadRequest),
+        BodyFault::TooLong => Turn::Bad(Own::ContentTooLarge),
         BodyFault::Fault => Turn::Unread,
         BodyFault::NoMemory => Turn::NoMemory,
     }
