@@ -135,7 +135,11 @@ struct Ready {
 impl Seat {
     // The text has room for any address, so this one is written whole.
     fn client(self, ready: Ready, leisure: Option<Leisure>) -> (TcpLink, Peer)
-        ensures { result.0.leisure ≡ leisure }
+        ensures leisure { result.0.leisure ≡ leisure }
+        ensures seat { result.0.seat ≡ ready.at }
+
+        // What came of the client before is read first.
+        ensures ahead { (result.0.from ≡ 0) × (result.0.to ≡ min ready.count (length self.buffer.items)) × (result.0.ahead ≡ self.buffer) }
     {
         let Seat {
             outbox,
