@@ -29,7 +29,7 @@ pub enum TurnKind {
     Request,
 }
 
-/// ServesForward a connector on its link until the bytes end, or the talk can't go on. After 2^64 - 1 turns it ends as for want
+/// Serves a connector on its link until the bytes end, or the talk can't go on. After 2^64 - 1 turns it ends as for want
 /// of memory.
 pub fn serve_ajp<L: Link>(alloc: Global, link: &mut L, app: &AppConfig) -> ContainerEnd
     ensures talk { IsTalk app.now (link_at L.Meanings link.old) (link_at L.Meanings link.new) result }
@@ -60,7 +60,7 @@ fn requests_of(kind: TurnKind) -> u64
     }
 }
 
-/// ServesForward one turn: a CPing, or a request with its body.
+/// Serves one turn: a CPing, or a request with its body.
 fn serve_turn<L: Link>(alloc: Global, link: &mut L, app: &AppConfig) -> Result<TurnKind, Stopped>
     ensures took { TakesTurn app.now (link_at L.Meanings link.old) (link_at L.Meanings link.new) result }
     ensures no_fewer { L.faults link.old ≤ L.faults link.new }
@@ -70,7 +70,7 @@ fn serve_turn<L: Link>(alloc: Global, link: &mut L, app: &AppConfig) -> Result<T
     serve_taken(alloc, link, app, payload.as_slice())
 }
 
-/// ServesForward the turn that the payload of a taken packet begins.
+/// Serves the turn that the payload of a taken packet begins.
 fn serve_taken<L: Link>(
     alloc: Global,
     link: &mut L,
@@ -89,7 +89,7 @@ fn serve_taken<L: Link>(
     }
 }
 
-/// ServesForward the request whose Forward Request was taken.
+/// Serves the request whose Forward Request was taken.
 fn serve_read<L: Link>(
     alloc: Global,
     link: &mut L,
@@ -163,7 +163,7 @@ fn stopped_by(error: DecodeError) -> Stopped
     }
 }
 
-/// ServesForward a request, once its Forward Request was read.
+/// Serves a request, once its Forward Request was read.
 fn serve_request<L: Link>(
     alloc: Global,
     link: &mut L,

@@ -1,4 +1,4 @@
-//! `TalkPlan`: what a talk is told before it begins.
+//! The plan of a talk, set before it begins.
 
 use httpdate::HttpDate;
 use jk_io::Bytes;

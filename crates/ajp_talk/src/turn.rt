@@ -1,4 +1,4 @@
-//! `Turn`: what one message of the container makes of a talk.
+//! The turns that the messages of a container give to a talk.
 
 ghost use Rattle.std.specs.Prelude.{◌≡◌};
 ghost use Rattle.ajp_talk.specs.Turns.{turn_of as turn_for, fault_turn as turn_by};

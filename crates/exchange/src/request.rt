@@ -1,4 +1,4 @@
-//! `Request`: what an exchange is of.
+//! The request of an exchange.
 ghost use Rattle.std.specs.Prelude.{◌≡◌};
 ghost use Rattle.exchange.specs.Requests.{errand_of, own_kind as own_kind_of};
 

@@ -26,3 +26,6 @@ pub use ranges::{
     ContainerRoute, DrillRequests, MOST_REQUESTS, MOST_ROUTE_BYTES, MOST_THREADS, ThreadCount,
 };
 pub use reading::{command_of, read_words};
+pub use values::{
+    MOST_ENTRIES, MOST_IDLE_ROUNDS, MOST_RATE, MOST_SECONDS, MOST_WAITING, MOST_WATCH_SECONDS,
+};

@@ -11,22 +11,22 @@ use crate::ranges::{DrillRequests, MOST_REQUESTS, MOST_THREADS, ThreadCount};
 use jk_io::{Bytes, ClientLimits, parse_decimal};
 
 /// The most seconds from one look through the idle links to the next: a day.
-const MOST_WATCH_SECONDS: u64 = 86_400;
+pub const MOST_WATCH_SECONDS: u64 = 86_400;
 
 /// The most seconds of a client's limit, and of an end: a day.
-const MOST_SECONDS: u64 = 86_400;
+pub const MOST_SECONDS: u64 = 86_400;
 
 /// The most bytes a second that clients can be asked for.
-const MOST_RATE: u64 = 1_000_000_000;
+pub const MOST_RATE: u64 = 1_000_000_000;
 
 /// The most clients that a front can be told to let wait.
-const MOST_WAITING: u64 = 1_000_000;
+pub const MOST_WAITING: u64 = 1_000_000;
 
 /// The most entries of a journal that aren't kept yet.
-const MOST_ENTRIES: u64 = 65_536;
+pub const MOST_ENTRIES: u64 = 65_536;
 
 /// The most looks before an idle link is closed.
-const MOST_IDLE_ROUNDS: u64 = 1_000_000;
+pub const MOST_IDLE_ROUNDS: u64 = 1_000_000;
 
 /// A decimal number of a range.
 pub(crate) fn number_in(least: u64, most: u64, text: &[u8]) -> Option<u64>

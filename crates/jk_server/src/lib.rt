@@ -23,7 +23,7 @@ pub use ajp_container::{
     ContainerRunEnd, ContainerWorker, ContainerWorkerList, DoorList, run_container,
 };
 pub use gear_parts::{ContainerRun, GearOrder, Part, contain_gears};
-pub use orders::container::{ContainerOrder, MOST_ROUTE_BYTES, contain};
+pub use orders::container::{ContainerOrder, contain};
 pub use orders::ends::CommandEnd;
 pub use orders::serve::{ServeRun, cut_at, serve};
 pub use part::{WorkerEnd, WorkerEndList};

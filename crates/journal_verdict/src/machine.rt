@@ -38,7 +38,7 @@ fn bad_line(alloc: Global, number: u64, text: &[u8], ruled: Bytes) -> Result<Fol
     })
 }
 
-/// StandTakes a line's text. False: it can't be read there.
+/// Takes a line's text. False: it can't be read there.
 fn take_text(alloc: Global, reader: &mut Reader, text: &[u8]) -> Result<bool, NoMemory>
     requires few { held reader.old.place < 2 ^ 32 }
     requires sound { IsSound reader.old }
@@ -141,7 +141,7 @@ impl Machine {
         Ok(after_head(alloc, self)?)
     }
 
-    /// StandTakes a further line, which has this number. After a refusal nothing is said of the machine.
+    /// Takes a further line, which has this number. After a refusal nothing is said of the machine.
     pub(crate) fn take(
         &mut self,
         alloc: Global,

@@ -1,91 +1,105 @@
 //! Remarks on a command's words that the parser of the help takes, and that are no command.
 use clap::ArgMatches;
-use jk_cli::{MOST_REQUESTS, MOST_ROUTE_BYTES, MOST_THREADS, usage_of};
+use jk_cli::{
+    MOST_ENTRIES, MOST_IDLE_ROUNDS, MOST_RATE, MOST_REQUESTS, MOST_ROUTE_BYTES, MOST_SECONDS,
+    MOST_THREADS, MOST_WAITING, MOST_WATCH_SECONDS, usage_of,
+};
 use jk_io::{NoMemory, parse_decimal};
 use std::alloc::Global;
 
-/// A word or an option that is a number of a range.
+/// A word or an option, as a person writes it, that is a number of a range.
 struct Range {
-    name: &'static str,
+    shown: &'static str,
     least: u64,
     most: u64,
-    wanted: &'static str,
 }
 
 static RANGES: [Range; 12] = [
     Range {
-        name: "SEED",
+        shown: "SEED",
         least: 0,
         most: u64::MAX,
-        wanted: "SEED must be a number",
     },
     Range {
-        name: "THREADS",
+        shown: "THREADS",
         least: 1,
         most: MOST_THREADS as u64,
-        wanted: "THREADS must be a number from 1 to 64",
     },
     Range {
-        name: "REQUESTS",
+        shown: "REQUESTS",
         least: 1,
         most: MOST_REQUESTS as u64,
-        wanted: "REQUESTS must be a number from 1 to 1000000",
     },
     Range {
-        name: "clients",
+        shown: "--clients",
         least: 0,
         most: u64::MAX,
-        wanted: "--clients must be a number",
     },
     Range {
-        name: "cut",
+        shown: "--cut",
         least: 1,
-        most: 65_536,
-        wanted: "--cut must be a number from 1 to 65536",
+        most: MOST_ENTRIES,
     },
     Range {
-        name: "head",
+        shown: "--head",
         least: 0,
-        most: 86_400,
-        wanted: "--head must be a number from 0 to 86400",
+        most: MOST_SECONDS,
     },
     Range {
-        name: "keep",
+        shown: "--keep",
         least: 0,
-        most: 86_400,
-        wanted: "--keep must be a number from 0 to 86400",
+        most: MOST_SECONDS,
     },
     Range {
-        name: "rate",
+        shown: "--rate",
         least: 0,
-        most: 1_000_000_000,
-        wanted: "--rate must be a number from 0 to 1000000000",
+        most: MOST_RATE,
     },
     Range {
-        name: "waiting",
+        shown: "--waiting",
         least: 0,
-        most: 1_000_000,
-        wanted: "--waiting must be a number from 0 to 1000000",
+        most: MOST_WAITING,
     },
     Range {
-        name: "grace",
+        shown: "--grace",
         least: 0,
-        most: 86_400,
-        wanted: "--grace must be a number from 0 to 86400",
+        most: MOST_SECONDS,
     },
     Range {
-        name: "watch",
+        shown: "--watch",
         least: 1,
-        most: 86_400,
-        wanted: "--watch must be a number from 1 to 86400",
+        most: MOST_WATCH_SECONDS,
     },
     Range {
-        name: "idle",
+        shown: "--idle",
         least: 1,
-        most: 1_000_000,
-        wanted: "--idle must be a number from 1 to 1000000",
+        most: MOST_IDLE_ROUNDS,
     },
 ];
+
+impl Range {
+    /// The name under which the parser keeps the value.
+    fn name(&self) -> &'static str {
+        self.shown.strip_prefix("--").unwrap_or(self.shown)
+    }
+
+    fn holds(&self, word: &str) -> bool {
+        match parse_decimal(word.as_bytes()) {
+            Some(number) => self.least <= number && number <= self.most,
+            None => false,
+        }
+    }
+
+    /// What a value must be.
+    fn wanted(&self, alloc: Global) -> Result<String, NoMemory> {
+        let Range { shown, least, most } = self;
+        if *most == u64::MAX {
+            Ok(format!(in alloc; "{shown} must be a number")?)
+        } else {
+            Ok(format!(in alloc; "{shown} must be a number from {least} to {most}")?)
+        }
+    }
+}
 
 /// An option that stands only beside another one.
 struct Need {
@@ -107,19 +121,12 @@ static NEEDS: [Need; 2] = [
     },
 ];
 
-fn is_within(range: &Range, word: &str) -> bool {
-    match parse_decimal(word.as_bytes()) {
-        Some(number) => range.least <= number && number <= range.most,
-        None => false,
-    }
-}
-
-/// What the first number that isn't of its range must be, and its word.
-fn number_fault<'w>(given: &ArgMatches<'w>) -> Option<(&'static str, &'w str)> {
+/// The first number that isn't of its range, and its word.
+fn number_fault<'w>(given: &ArgMatches<'w>) -> Option<(&'static Range, &'w str)> {
     for range in &RANGES {
-        if let Some(word) = given.get_str(range.name) {
-            if !is_within(range, word) {
-                return Some((range.wanted, word));
+        if let Some(word) = given.get_str(range.name()) {
+            if !range.holds(word) {
+                return Some((range, word));
             }
         }
     }
@@ -153,13 +160,21 @@ fn lone_option<'w>(given: &ArgMatches<'w>) -> Option<(&'static str, &'w str)> {
     None
 }
 
-fn fault_of<'w>(given: &ArgMatches<'w>) -> Option<(&'static str, &'w str)> {
-    if let Some(fault) = number_fault(given) {
-        return Some(fault);
+/// What the value at fault must be, and its word.
+fn fault_of<'w>(
+    alloc: Global,
+    given: &ArgMatches<'w>,
+) -> Result<Option<(String, &'w str)>, NoMemory> {
+    if let Some((range, word)) = number_fault(given) {
+        return Ok(Some((range.wanted(alloc)?, word)));
     }
-    match text_fault(given) {
+    let fault = match text_fault(given) {
         Some(fault) => Some(fault),
         None => lone_option(given),
+    };
+    match fault {
+        Some((wanted, word)) => Ok(Some((String::from_str(alloc, wanted)?, word))),
+        None => Ok(None),
     }
 }
 
@@ -172,7 +187,7 @@ pub(crate) fn said_of_values(alloc: Global, matches: &ArgMatches<'_>) -> Result<
         )?);
     };
     let usage = usage_of(name).unwrap_or("jkd COMMAND WORDS");
-    match fault_of(given) {
+    match fault_of(alloc, given)? {
         Some((wanted, word)) => Ok(format!(in alloc; "error: {wanted}: {word}\n\nUsage: {usage}")?),
         None => Ok(format!(in alloc; "error: these words are no command\n\nUsage: {usage}")?),
     }

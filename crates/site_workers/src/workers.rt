@@ -32,7 +32,7 @@ use site_config::{
 };
 use std::alloc::Global;
 
-/// AddsListing a balancer under a copy of its name.
+/// Adds a balancer under a copy of its name.
 fn put_lb(alloc: Global, draft: &mut Draft, name: &[u8], lb: Lb) -> Result<(), NoMemory>
     ensures { OnOk result (draft.new ≡ with_lb draft.old name.now lb) }
 {
@@ -62,7 +62,7 @@ fn check_members<'t>(
     check_types(alloc, given, rows, members)
 }
 
-/// AddsListing an lb worker.
+/// Adds an lb worker.
 fn add_lb<'t>(
     alloc: Global,
     given: &Given<'_, 't>,
@@ -85,7 +85,7 @@ fn add_lb<'t>(
     Ok(())
 }
 
-/// AddsListing an ajp13 worker that is listed itself.
+/// Adds an ajp13 worker that is listed itself.
 fn add_direct<'t>(
     alloc: Global,
     given: &Given<'_, 't>,
@@ -110,7 +110,7 @@ fn add_direct<'t>(
     Ok(())
 }
 
-/// AddsListing a status worker.
+/// Adds a status worker.
 fn add_status(
     alloc: Global,
     given: &Given<'_, '_>,
@@ -130,7 +130,7 @@ fn add_status(
     draft.add_status(Bytes::from_slice(alloc, listing.name)?, status)
 }
 
-/// AddsListing a listed worker, or refuses it.
+/// Adds a listed worker, or refuses it.
 fn add_worker<'t>(
     alloc: Global,
     given: &Given<'_, 't>,
@@ -152,7 +152,7 @@ fn add_worker<'t>(
     }
 }
 
-/// AddsListing the listed workers, up to the first that is refused.
+/// Adds the listed workers, up to the first that is refused.
 fn add_workers<'t>(
     alloc: Global,
     given: &Given<'_, 't>,

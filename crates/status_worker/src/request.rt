@@ -1,4 +1,4 @@
-//! `PageRequest`: what a status worker is asked.
+//! The request of a page from a status worker.
 
 use jk_io::Bytes;
 use site_config::{Config, Status};

@@ -1,6 +1,6 @@
 //! `container`: links served as a servlet container does.
 ghost use Rattle.std.specs.Prelude.{◌≡◌, ◌≤◌, length, None};
-ghost use Rattle.jk_server.specs.declared.orders.container.TheConstants.{MOST_ROUTE_BYTES};
+ghost use Rattle.jk_cli.specs.declared.ranges.TheConstants.{MOST_ROUTE_BYTES};
 ghost use Rattle.jk_server.specs.Commands.{ContainsAsked, WorksContainer};
 
 use crate::orders::ends::{CommandEnd, NO_MEMORY, end_by, end_of_container};
@@ -11,9 +11,6 @@ use std::alloc::Global;
 use std::marker::Brand;
 use std::sync::Wait;
 use std::thread::Threads;
-
-/// The most bytes of a container's route.
-pub const MOST_ROUTE_BYTES: usize = 1_024;
 
 /// The greatest packet of the container, in bytes.
 const PACKET_BYTES: u32 = 8_192;
