@@ -12,7 +12,7 @@ use Rattle.ajp_container.specs.Applications.{drops}
 use Rattle.ajp_container.specs.Request.{value_named}
 use Rattle.ajp_container.specs.Pages.{who, echo, sized, empty, session, unknown}
 use Rattle.ajp_container.specs.Answer.{cut, length_line, cookie_line, head_of, messages_of, answer_by}
-use Rattle.ajp_container.specs.Reply.{IsReply, NeverEnds, length_told}
+use Rattle.ajp_container.specs.Reply.{AreReply, NeverEnds, length_told}
 use Rattle.ajp_container.proofs.CutLaws.{cut-is}
 
 length-found : (counted : Bool) (body text : List ℕ) (cookie : Option (List ℕ)) → text ≡ body
@@ -21,7 +21,7 @@ length-found true body text cookie same = ap (λ (t : List ℕ). length_told tru
 length-found false body text None same = refl
 length-found false body text (Some cookie) same = refl
 
-pub page-is_reply : (packet : ℕ) (page : AppPage) → 8 < packet → IsReply (packet - 8) page.status page.counted page.body (messages_of packet page)
+pub page-is_reply : (packet : ℕ) (page : AppPage) → 8 < packet → AreReply (packet - 8) page.status page.counted page.body (messages_of packet page)
 page-is_reply packet page some =
     let size : 0 < packet - 8 = omega arith in
     let is = cut-is (packet - 8) page.body size in
@@ -36,7 +36,7 @@ page-is_reply packet page some =
 
 -- a reply of some page
 abbrev pub IsAReply : AppConfig → List Message → Type 0
-IsAReply app messages = (status : ℕ) × (counted : Bool) × (text : List ℕ) × IsReply (app.packet - 8) status counted text messages
+IsAReply app messages = (status : ℕ) × (counted : Bool) × (text : List ℕ) × AreReply (app.packet - 8) status counted text messages
 
 page-is_a_reply : (app : AppConfig) (page : AppPage) → IsAReply app (messages_of app.packet page)
 page-is_a_reply app page = let least = app.packet_at_least in (page.status, page.counted, page.body, page-is_reply app.packet page (omega arith))

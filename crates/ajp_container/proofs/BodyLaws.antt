@@ -14,7 +14,7 @@ use Rattle.ajp_container.specs.Answer.{answer_of, bytes_of}
 use Rattle.ajp_container.specs.Turns.{Awaited, Taken, data_of, has_ended, is_enough, asks_on, ask}
 use Rattle.jk_io.specs.Moments.{Moment}
 use Rattle.ajp_container.specs.Ends.{Goes, Within, Stops, StopsWithin, drops_at}
-use Rattle.ajp_container.specs.Steps.{NotTaken, TookPiece, NotSent, TookFirst, asks, AnsweredAsks, TookRest, StopsAsking, TakesRest, TookBody, TakesBody}
+use Rattle.ajp_container.specs.Steps.{NotTaken, TookPiece, NotSent, TookFirstPacket, asks, AnsweredAsks, TookRest, StopsAsking, TakesRest, TookBody, TakesBody}
 use Rattle.ajp_container.proofs.StepLaws.{comes-then, goes-none, goes-then, stops-then, stops-reading, stops-sending}
 
 pub bytes_of-append : (a b : List Message) → bytes_of (a ++ b) ≡ bytes_of a ++ bytes_of b
@@ -193,7 +193,7 @@ first-failed app forward m0 m1 stop has t = record {
   stops = stops-reading app.packet Within (drops_at app forward Awaited) m0 m1 stop t;
 }
 
-pub first-alone : (app : AppConfig) (forward : Forward) (m0 m1 : Moment) (first : List ℕ) → TookFirst app forward m0 m1 first → asks_body app forward ≡ false
+pub first-alone : (app : AppConfig) (forward : Forward) (m0 m1 : Moment) (first : List ℕ) → TookFirstPacket app forward m0 m1 first → asks_body app forward ≡ false
     → TookBody app forward m0 m1 first
 first-alone app forward m0 m1 first t no_echo = record {
   first = first;
@@ -206,7 +206,7 @@ first-alone app forward m0 m1 first t no_echo = record {
 }
 
 -- the rest after the first packet
-pub body-taken : (app : AppConfig) (forward : Forward) (m0 m1 m2 : Moment) (first : List ℕ) (result : Result (List ℕ) Stopped) → TookFirst app forward m0 m1 first
+pub body-taken : (app : AppConfig) (forward : Forward) (m0 m1 m2 : Moment) (first : List ℕ) (result : Result (List ℕ) Stopped) → TookFirstPacket app forward m0 m1 first
     → TakesRest app forward first m1 m2 result → TakesBody app forward m0 m2 result
 body-taken app forward m0 m1 m2 first (Ok body) t r = record {
   first = first;

@@ -84,7 +84,7 @@ EndsSending before after (Bad bad) = ⊥
 EndsSending before after NoMemory = after.faults ≡ before.faults
 
 -- A packet was awaited, with all sent that was owed before it.
-pub record StopsReading (most : ℕ) (place : TurnPlace) (waiting : Bool) (going : List ℕ) (before after : Moment) (rest : List ℕ) (stop : Stopped) : Type 0 where
+pub record StopsAwaiting (most : ℕ) (place : TurnPlace) (waiting : Bool) (going : List ℕ) (before after : Moment) (rest : List ℕ) (stop : Stopped) : Type 0 where
   pub waits : IsTrue waiting
   pub sent : after.sent ≡ appended before.sent going
   pub why : EndsReading most place before after rest stop
@@ -105,7 +105,7 @@ pub record StopsDropped (dropped : Bool) (going : List ℕ) (before after : Mome
 -- Where the container owes these bytes, it stops before the next packet is taken, before all is sent, or by `/drop`.
 abbrev pub Stops : ℕ → TurnPlace → Bool → Bool → List ℕ → Moment → Moment → List ℕ → Stopped → Type 0
 Stops most place waiting dropped going before after rest stop =
-    StopsReading most place waiting going before after rest stop
+    StopsAwaiting most place waiting going before after rest stop
     ⊎ (StopsSending going before after rest stop ⊎ StopsDropped dropped going before after rest stop)
 
 -- Whether the link is to be closed after a body that was taken so far.

@@ -24,7 +24,7 @@ length_told true body = Some (decimal (length body))
 
 -- The messages are a reply: one head, the body in chunks of at most `size` bytes, End Response. Where the head has a
 -- Content-Length, it is the length of the chunks together.
-pub record IsReply (size status : ℕ) (counted : Bool) (body : List ℕ) (messages : List Message) : Type 0 where
+pub record AreReply (size status : ℕ) (counted : Bool) (body : List ℕ) (messages : List Message) : Type 0 where
   pub head : ReplyParts
   pub chunks : List (List ℕ)
   pub whole : messages ≡ Headers head ∷ map Chunk chunks ++ End true ∷ []
@@ -34,7 +34,7 @@ pub record IsReply (size status : ℕ) (counted : Bool) (body : List ℕ) (messa
 
 -- The messages are a reply with some status, some body, and a length or none.
 abbrev pub IsSomeReply : ℕ → List Message → Type 0
-IsSomeReply size messages = (status : ℕ) × (counted : Bool) × (body : List ℕ) × IsReply size status counted body messages
+IsSomeReply size messages = (status : ℕ) × (counted : Bool) × (body : List ℕ) × AreReply size status counted body messages
 
 -- No message is End Response.
 abbrev pub NeverEnds : List Message → Type 0

@@ -17,7 +17,7 @@ use Rattle.ajp_container.specs.declared.serving.TurnKind.{TurnKind}
 use Rattle.ajp_container.specs.declared.serving.TurnKind.TheVariants as kinds
 use Rattle.ajp_container.specs.Request.{has_first}
 use Rattle.ajp_container.specs.Answer.{bytes_of}
-use Rattle.ajp_container.specs.Turns.{Body, ContainerTurn, Idle, Ping, Request, SpellsPiece, IsPacketOf, CameAnswers, AskedFor, CameFirst, CameTaken, CameBody, Came, data_of, asks_on, ask, owed_for, owed, is_over}
+use Rattle.ajp_container.specs.Turns.{Body, ContainerTurn, Idle, Ping, Request, SpellsPiece, IsPacketSpelling, CameAnswers, AskedFor, CameFirst, CameTaken, CameBody, Came, data_of, asks_on, ask, owed_for, owed, is_over}
 use Rattle.jk_io.specs.Moments.{Moment}
 use Rattle.ajp_container.specs.Ends.{Goes, TurnPlace, Between, Within, IsRefusedPacket, EndsReading, EndsSending, Stops, StopsWithin, StopsInTurn}
 
@@ -51,7 +51,7 @@ TakesPacket most place before after (Err stop) = NotTaken most place before afte
 pub record TookPiece (most : ℕ) (body : List ℕ) (before after : Moment) (body_after : List ℕ) (len : ℕ) : Type 0 where
   pub piece : List ℕ
   pub bytes : List ℕ
-  pub packet : IsPacketOf (SpellsPiece piece) most bytes
+  pub packet : IsPacketSpelling (SpellsPiece piece) most bytes
   pub added : body_after ≡ body ++ piece
   pub counted : len ≡ length piece
   pub goes : Goes before after bytes []
@@ -71,13 +71,13 @@ Sends going before after (Ok _) = Goes before after [] going
 Sends going before after (Err stop) = NotSent going before after stop
 
 -- The first body packet was taken, where the request has one.
-pub record TookFirst (app : AppConfig) (forward : Forward) (before after : Moment) (first : List ℕ) : Type 0 where
+pub record TookFirstPacket (app : AppConfig) (forward : Forward) (before after : Moment) (first : List ℕ) : Type 0 where
   pub bytes : List ℕ
   pub begun : CameFirst app.packet (has_first forward) first bytes
   pub goes : Goes before after bytes []
 
 abbrev pub TakesFirst : AppConfig → Forward → Moment → Moment → Result (List ℕ) Stopped → Type 0
-TakesFirst app forward before after (Ok first) = TookFirst app forward before after first
+TakesFirst app forward before after (Ok first) = TookFirstPacket app forward before after first
 TakesFirst app forward before after (Err stop) = IsTrue (has_first forward) × NotTaken app.packet Within before after stop
 
 -- one ask for each answer

@@ -59,7 +59,7 @@ SpellsPiece piece payload =
     ((length piece < 65536) × (payload ≡ int (length piece) ++ piece)) ⊎ ((piece ≡ []) × (payload ≡ []))
 
 -- A packet to the container whose payload spells something.
-pub record IsPacketOf (Spells : List ℕ → Type 0) (most : ℕ) (bytes : List ℕ) : Type 0 where
+pub record IsPacketSpelling (Spells : List ℕ → Type 0) (most : ℕ) (bytes : List ℕ) : Type 0 where
   pub payload : List ℕ
   pub packet : IsPacket false most payload bytes
   pub spelled : Spells payload
@@ -68,11 +68,11 @@ pub record IsPacketOf (Spells : List ℕ → Type 0) (most : ℕ) (bytes : List 
 abbrev pub CameAnswers : ℕ → List (List ℕ) → List ℕ → Type 0
 CameAnswers most [] bytes = bytes ≡ []
 CameAnswers most (piece ∷ past) bytes =
-    (before : List ℕ) × (last : List ℕ) × CameAnswers most past before × IsPacketOf (SpellsPiece piece) most last × (bytes ≡ before ++ last)
+    (before : List ℕ) × (last : List ℕ) × CameAnswers most past before × IsPacketSpelling (SpellsPiece piece) most last × (bytes ≡ before ++ last)
 
 -- The first body packet, where the request has one.
 abbrev pub CameFirst : ℕ → Bool → List ℕ → List ℕ → Type 0
-CameFirst most true first bytes = IsPacketOf (SpellsPiece first) most bytes
+CameFirst most true first bytes = IsPacketSpelling (SpellsPiece first) most bytes
 CameFirst most false first bytes = (first ≡ []) × (bytes ≡ [])
 
 pub record CameTaken (app : AppConfig) (forward : Forward) (first : List ℕ) (past : List (List ℕ)) (bytes : List ℕ) : Type 0 where
@@ -93,7 +93,7 @@ abbrev pub Came : AppConfig → ContainerTurn → List ℕ → Type 0
 Came app Idle bytes = bytes ≡ []
 Came app Ping bytes = bytes ≡ packet false (10 ∷ [])
 Came app (Request forward body) bytes =
-    (head : List ℕ) × (behind : List ℕ) × IsPacketOf (SpellsForward forward) app.packet head × CameBody app forward body behind
+    (head : List ℕ) × (behind : List ℕ) × IsPacketSpelling (SpellsForward forward) app.packet head × CameBody app forward body behind
     × (bytes ≡ head ++ behind)
 
 -- Get Body Chunk, for as many bytes as a packet holds.

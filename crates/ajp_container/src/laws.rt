@@ -8,7 +8,7 @@ ghost use Rattle.ajp_container.specs.declared.page.AppPage.{AppPage};
 ghost use Rattle.ajp_container.specs.Applications.{drops};
 ghost use Rattle.ajp_container.specs.Request.{application_of, content_length, asks_body};
 ghost use Rattle.ajp_container.specs.Answer.{cut, messages_of, answer_of, bytes_of, IsSendable};
-ghost use Rattle.ajp_container.specs.Reply.{IsCutBody, IsReply, IsSomeReply, NeverEnds, IsShortTurn, HasAll};
+ghost use Rattle.ajp_container.specs.Reply.{IsCutBody, AreReply, IsSomeReply, NeverEnds, IsShortTurn, HasAll};
 ghost use Rattle.ajp_container.specs.Turns.{ContainerTurn, AskedFor, WasAsked, owed};
 
 /// The chunks of a body joined are the body, none is empty, and each but the last is as long as a packet allows.
@@ -20,7 +20,7 @@ pub fn a_body_is_its_chunks()
 /// together.
 pub fn a_page_is_a_reply()
     ensures { (packet : ℕ) (page : AppPage) → 8 < packet
-        → IsReply (packet - 8) page.status page.counted page.body (messages_of packet page) }
+        → AreReply (packet - 8) page.status page.counted page.body (messages_of packet page) }
 {}
 
 /// Every request is answered by a whole reply, but for one of `/drop`, whose answer has no End Response.

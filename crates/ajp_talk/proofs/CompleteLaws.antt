@@ -19,7 +19,7 @@ use Rattle.ajp_talk.specs.Moments.{TalkMoment, data_at}
 use Rattle.ajp_talk.specs.Replies.{is_good, is_listed, chunks_of, sum_of, framing_in, exceeds, agrees, IsUnlisted, IsReply, bytes_for}
 use Rattle.ajp_talk.specs.Owed.{asked, pong_of}
 use Rattle.ajp_talk.specs.Talk.{IsTalk, HasFailed, HasNoPong, IsPingCause, IsCause, IsWrong, IsNext, BreaksSum, IsDone, IsGone, HasBadBody}
-use Rattle.ajp_talk.specs.Complete.{Brings, HasWhole, IsCompleted}
+use Rattle.ajp_talk.specs.Complete.{Brings, BringsWhole, IsCompleted}
 use Rattle.ajp_talk.specs.declared.plan.TalkPlan.{TalkPlan}
 use Rattle.ajp_reply.specs.declared.stage.Stage.{Stage}
 use Rattle.ajp_talk.specs.declared.ending.Told.{Told}
@@ -332,7 +332,7 @@ reached-or-other plan cause n limit = elim (cases_lt n plan.most) [
   | inr reached ↦ inl reached
 ]
 
-module _ (plan : TalkPlan) (s n : TalkMoment) (all : List Message) (w : HasWhole plan s n all) where
+module _ (plan : TalkPlan) (s n : TalkMoment) (all : List Message) (w : BringsWhole plan s n all) where
   not_failed : (stage : Stage) (cause : Cause) (told : Option Told) (bytes : ℕ) → HasFailed plan s n stage cause told bytes → ⊥
   not_failed stage cause told bytes f =
       let left = left-of s.line n.line (pong_of plan ++ (f.came ++ f.rest)) ((pong_of plan ++ w.reply) ++ w.more) w.comes f.traffic.came in

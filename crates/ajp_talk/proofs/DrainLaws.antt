@@ -19,7 +19,7 @@ use Rattle.jk_io.specs.Moments.{Moment}
 use Rattle.ajp_talk.specs.Moments.{IsSteady}
 use Rattle.ajp_talk.specs.Replies.{sum_of, exceeds, chunks_of, agrees}
 use Rattle.ajp_talk.specs.Turns.{Came, IsHeard, IsUnheard, IsOnCourse, IsChunkTurn, IsEndTurn, CameUnheard, IsChunkFailure, IsUnreadPacket}
-use Rattle.ajp_talk.specs.Drains.{IsLostCourse, chunk_messages, IsDropped, Drains, IsNoTail, EndsRest, IsDrained, rest_after, rest_without, IsClosing, IsDroppedMessage, IsDrop}
+use Rattle.ajp_talk.specs.Drains.{IsLostCourse, chunk_messages, DropsBytes, Drains, IsNoTail, EndsRest, IsDrained, rest_after, rest_without, IsClosing, IsDroppedMessage, IsDrop}
 use Rattle.ajp_talk.specs.Ends.{IsPlan}
 use Rattle.ajp_talk.specs.declared.plan.TalkPlan.{TalkPlan}
 use Rattle.ajp_talk.specs.declared.course.Course.{Course}
@@ -38,7 +38,7 @@ pub record Draining (plan : TalkPlan) (l m : Moment) (w v : Moment) (c d : Cours
   pub chunks : List (List ℕ)
   pub bytes : List ℕ
   pub spelled : Spelled plan.packet (chunk_messages chunks) bytes
-  pub dropped : IsDropped l m w v bytes
+  pub dropped : DropsBytes l m w v bytes
   pub counts : d.received ≡ c.received + length bytes
   pub below : d.received < plan.most
   pub same : d.sent ≡ c.sent
@@ -62,7 +62,7 @@ drains-first plan l w c lost below = record {
   steady = refl;
 }
 
-dropped-more : (l m n : Moment) (w v u : Moment) (a b : List ℕ) (k k' : ℕ) → IsDropped l m w v a → Came m n k k' b → u.sent ≡ v.sent → IsDropped l n w u (a ++ b)
+dropped-more : (l m n : Moment) (w v u : Moment) (a b : List ℕ) (k k' : ℕ) → DropsBytes l m w v a → Came m n k k' b → u.sent ≡ v.sent → DropsBytes l n w u (a ++ b)
 dropped-more l m n w v u a b k k' d h same = record {
   came = record {
     used = d.came.used ∙ ap (prepended a) h.came.used ∙ prepended-prepended a b n.incoming;

@@ -21,7 +21,7 @@ use Rattle.ajp_talk.specs.Talk.{IsGone, IsBrokenOff, IsNoEnd, Halt, IsHalted, Is
 use Rattle.ajp_talk.specs.Talk as halt_is
 use Rattle.ajp_talk.specs.Courses.{writer_for, At}
 use Rattle.ajp_talk.specs.Turns.{IsHeard, Acts, IsTurn, CameUnheard}
-use Rattle.ajp_talk.specs.Drains.{IsLostCourse, chunk_messages, IsTail, IsDropped, Drains, IsNoTail, EndsRest, IsAfterChunks, IsCutShort}
+use Rattle.ajp_talk.specs.Drains.{IsLostCourse, chunk_messages, IsTail, DropsBytes, Drains, IsNoTail, EndsRest, IsAfterChunks, IsCutShort}
 use Rattle.ajp_talk.specs.Ends.{IsPlan, bytes_end}
 use Rattle.ajp_talk.specs.declared.plan.TalkPlan.{TalkPlan}
 use Rattle.ajp_talk.specs.declared.course.Course.{Course}
@@ -364,7 +364,7 @@ lost_gone plan s n c fit closes a = record {
 
 -- what was broken off, and what came after it
 broken-behind : (plan : TalkPlan) (s n p : TalkMoment) (past : List Message) (came put bytes : List ℕ) → IsBrokenOff plan s n past came [] put
-    → IsDropped n.line p.line n.client p.client bytes → p.body ≡ n.body → IsBrokenOff plan s p past came bytes put
+    → DropsBytes n.line p.line n.client p.client bytes → p.body ≡ n.body → IsBrokenOff plan s p past came bytes put
 broken-behind plan s n p past came put bytes b d body =
     let before : Traffic s.line n.line (pong_of plan ++ came) put = subst (λ (x : List ℕ). Traffic s.line n.line (pong_of plan ++ x) put) (append-nil came) b.traffic in
     record {

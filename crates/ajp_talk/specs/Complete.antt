@@ -19,7 +19,7 @@ Brings s n bytes = (s.incoming ≡ Some bytes) ⊎ (IsEmpty s.received × (n.rec
 
 -- The link brings CPong first, where the talk pings, and then this reply, whose status isn't listed, below the
 -- limit; the client's bytes have the body whole and below its own; and no fault rises.
-pub record HasWhole (plan : TalkPlan) (s n : TalkMoment) (all : List Message) : Type 0 where
+pub record BringsWhole (plan : TalkPlan) (s n : TalkMoment) (all : List Message) : Type 0 where
   pub reply : List ℕ
   pub more : List ℕ
   pub comes : Brings s.line n.line ((pong_of plan ++ reply) ++ more)
@@ -42,4 +42,4 @@ IsCompleted plan s n all (Ok (ends.BadBody status told passed bytes)) = ⊥
 IsCompleted plan s n all (Err want) = Unit {0}
 
 abbrev pub Completes : TalkPlan → TalkMoment → TalkMoment → Result TalkEnd NoMemory → Type 0
-Completes plan s n result = (all : List Message) → HasWhole plan s n all → IsCompleted plan s n all result
+Completes plan s n result = (all : List Message) → BringsWhole plan s n all → IsCompleted plan s n all result

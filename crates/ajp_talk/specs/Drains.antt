@@ -41,7 +41,7 @@ IsNoTail plan c bytes =
     (later : List Message) → Spelled plan.packet (End true ∷ later) bytes → agrees (framing_now c.writer) (sum_of (chunks_of later)) ≡ true → ⊥
 
 -- bytes came, nothing was sent, and nothing was written
-pub record IsDropped (l l' : Moment) (w w' : Moment) (bytes : List ℕ) : Type 0 where
+pub record DropsBytes (l l' : Moment) (w w' : Moment) (bytes : List ℕ) : Type 0 where
   pub came : HasCome l l' bytes
   pub sent : l'.sent ≡ l.sent
   pub written : w'.sent ≡ w.sent
@@ -75,7 +75,7 @@ pub record IsCutShort (plan : TalkPlan) (l l' : Moment) (c' : Course) (bytes : L
 -- the rest was read, and the link may be kept; or memory was wanted
 pub record Drains (plan : TalkPlan) (l l' : Moment) (w w' : Moment) (c c' : Course) (keep want : Bool) : Type 0 where
   pub bytes : List ℕ
-  pub dropped : IsDropped l l' w w' bytes
+  pub dropped : DropsBytes l l' w w' bytes
   pub counts : c'.received ≡ c.received + length bytes
   pub small : c'.received < plan.most + 4294967400
   pub same : c'.sent ≡ c.sent

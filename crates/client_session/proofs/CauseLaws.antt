@@ -30,7 +30,7 @@ use Rattle.exchange.specs.Talks.{HasRun, HaveTalked}
 use Rattle.exchange.specs.declared.ending.ExchangeEnd.TheVariants as exchange_end
 use Rattle.exchange.specs.declared.ending.Ran.{Ran}
 use Rattle.exchange.specs.declared.ending.Ran.TheVariants as ran_is
-use Rattle.status_worker.specs.Commands.{DoesAll, IsRefusedQuery, StopsAt, refusal_by}
+use Rattle.status_worker.specs.Commands.{DoesAll, IsRefusedQuery, StopsAtRefused, refusal_by}
 use Rattle.status_worker.specs.Desks.{DeskSide}
 use Rattle.status_worker.specs.declared.asking.Work.{Work}
 use Rattle.status_worker.specs.declared.refusal.PageRefusal.{PageRefusal}
@@ -214,7 +214,7 @@ page_full v s n r same =
     never_refused cfg status query (inr (open', inr (inl forbidden))) = read_only_full (sym forbidden.1)
     never_refused cfg status query (inr (open', inr (inr unknown))) = name_full (sym unknown.1)
 
-    by_error : (session : ℕ) (work : Work) (old new : DeskSide) (error : AdminError FullMark) → StopsAt session work old new error → refusal_by error ≡ Some PageRefusal.Full
+    by_error : (session : ℕ) (work : Work) (old new : DeskSide) (error : AdminError FullMark) → StopsAtRefused session work old new error → refusal_by error ≡ Some PageRefusal.Full
         → Rose old.state.fulls new.state.fulls
     by_error session work old new error stops is =
         let full = full_by error is in

@@ -7,14 +7,14 @@ use Rattle.ajp_request.specs.declared.forward.Forward.{Forward}
 use Rattle.ajp_container.specs.Answer.{answer_by, answer_of}
 use Rattle.ajp_container.specs.Applications.{is_echo}
 use Rattle.ajp_container.specs.Request.{application_of, has_first}
-use Rattle.ajp_container.specs.Turns.{CameAnswers, CameFirst, CameTaken, IsPacketOf, SpellsPiece, data_of}
+use Rattle.ajp_container.specs.Turns.{CameAnswers, CameFirst, CameTaken, IsPacketSpelling, SpellsPiece, data_of}
 use Rattle.ajp_container.specs.declared.app_config.AppConfig.{AppConfig}
 use Rattle.ajp_container.specs.declared.application.Application.{Application}
 use Rattle.ajp_container.specs.declared.application.Application.TheVariants.{Forbidden, Who, Echo, Size, Status, Session, DropAtOnce, DropBehindHead, DropBehindChunk, Unknown}
 
 -- ---- no more data than bytes
 
-piece-within : (most : ℕ) (piece bytes : List ℕ) → IsPacketOf (SpellsPiece piece) most bytes → length piece ≤ length bytes
+piece-within : (most : ℕ) (piece bytes : List ℕ) → IsPacketSpelling (SpellsPiece piece) most bytes → length piece ≤ length bytes
 piece-within most piece bytes p = of p.spelled
   where
     all : length bytes ≡ length p.payload + 4

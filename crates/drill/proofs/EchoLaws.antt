@@ -20,7 +20,7 @@ use Rattle.site_config.specs.declared.endpoint.Endpoint.{Endpoint}
 use Rattle.ajp_container.specs.Answer.{answer_of}
 use Rattle.ajp_container.specs.Applications.{is_echo}
 use Rattle.ajp_container.specs.Request.{application_of, asks_body, content_length, has_first}
-use Rattle.ajp_container.specs.Turns.{CameAnswers, CameFirst, IsPacketOf, SpellsPiece, data_of, has_ended, is_enough}
+use Rattle.ajp_container.specs.Turns.{CameAnswers, CameFirst, IsPacketSpelling, SpellsPiece, data_of, has_ended, is_enough}
 use Rattle.ajp_container.specs.declared.app_config.AppConfig.{AppConfig}
 use Rattle.drill.proofs.MeetingLaws.{Heard, IsPlain, reverse-asks}
 use Rattle.drill.proofs.DataLaws.{answer-same, piece-only}
@@ -167,7 +167,7 @@ answers-are most w n d first (piece ∷ pieces) a x y met (before, last, came, p
     }
 
 -- a packet is not nothing
-some-packet : (most : ℕ) (piece last y : List ℕ) → IsPacketOf (SpellsPiece piece) most last → [] ≡ last ++ y → ⊥
+some-packet : (most : ℕ) (piece last y : List ℕ) → IsPacketSpelling (SpellsPiece piece) most last → [] ≡ last ++ y → ⊥
 some-packet most piece last y p none =
     let is : [] ≡ packet false p.payload ++ y = none ∙ ap (λ (b : List ℕ). b ++ y) p.packet.whole in
     absurd cc
@@ -213,7 +213,7 @@ too_many_for most w n d k (piece ∷ pieces) a y len came same =
     too_many most w n d piece pieces a y came (subst (λ (j : ℕ). answers w d (replicate j (Ask n)) ≡ a ++ y) one same)
 
 -- a first packet before the answers
-came-behind : (most : ℕ) (first front : List ℕ) (pieces : List (List ℕ)) (a : List ℕ) → IsPacketOf (SpellsPiece first) most front → CameAnswers most pieces a
+came-behind : (most : ℕ) (first front : List ℕ) (pieces : List (List ℕ)) (a : List ℕ) → IsPacketSpelling (SpellsPiece first) most front → CameAnswers most pieces a
     → CameAnswers most (pieces ++ first ∷ []) (front ++ a)
 came-behind most first front [] a p none = ([], front, refl, p, ap (λ (b : List ℕ). front ++ b) none ∙ append-nil front)
 came-behind most first front (piece ∷ pieces) a p (before, last, came, q, is) = (

@@ -19,7 +19,7 @@ use Rattle.ajp_container.specs.Answer.{answer_of, bytes_of}
 use Rattle.ajp_container.specs.Applications.{drops}
 use Rattle.ajp_container.specs.Ends.{IsTalk, TurnPlace, Stops, place_of}
 use Rattle.ajp_container.specs.Request.{application_of}
-use Rattle.ajp_container.specs.Turns.{Body, Awaited, Taken, ContainerTurn, Idle, Ping, Request, Came, CameBody, CameTaken, IsPacketOf, Turns, ask, asks_on, data_of, is_dropped, is_over, owed, owed_for, waits}
+use Rattle.ajp_container.specs.Turns.{Body, Awaited, Taken, ContainerTurn, Idle, Ping, Request, Came, CameBody, CameTaken, IsPacketSpelling, Turns, ask, asks_on, data_of, is_dropped, is_over, owed, owed_for, waits}
 use Rattle.ajp_container.specs.declared.app_config.AppConfig.{AppConfig}
 use Rattle.ajp_container.specs.declared.ends.ContainerEnd.{ContainerEnd}
 use Rattle.ajp_container.specs.declared.ends.Stopped.{Stopped}
@@ -136,7 +136,7 @@ record SameRequest (f g : Forward) (x y : List ℕ) : Type 0 where
   forward : g ≡ f
   behind : x ≡ y
 
-same_request : (most : ℕ) (f g : Forward) (payload head x y : List ℕ) → SpellsForward f payload → IsPacketOf (SpellsForward g) most head
+same_request : (most : ℕ) (f g : Forward) (payload head x y : List ℕ) → SpellsForward f payload → IsPacketSpelling (SpellsForward g) most head
     → packet false payload ++ x ≡ head ++ y → SameRequest f g x y
 same_request most f g payload head x y spells p same =
     let one : packet false payload ++ x ≡ packet false p.payload ++ y = same ∙ ap (λ (b : List ℕ). b ++ y) p.packet.whole in

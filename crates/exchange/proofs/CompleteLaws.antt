@@ -6,7 +6,7 @@ use Rattle.jk_io.specs.declared.failures.NoMemory.{NoMemory}
 use Rattle.jk_io.specs.declared.reaching.Talk.{Talk}
 use Rattle.lb_model.specs.declared.member.MemberConfig.{MemberConfig}
 use Rattle.ajp_reply.specs.declared.message.Message.{Message}
-use Rattle.ajp_talk.specs.Complete.{Brings, HasWhole as HasWholeTalk, IsCompleted as IsTalkCompleted}
+use Rattle.ajp_talk.specs.Complete.{Brings, BringsWhole as HasWholeTalk, IsCompleted as IsTalkCompleted}
 use Rattle.jk_io.specs.Moments.{Moment}
 use Rattle.ajp_talk.specs.Moments.{data_at}
 use Rattle.ajp_talk.specs.Owed.{pong_of}

@@ -10,7 +10,7 @@ use Rattle.site_config.specs.declared.config.Config.{Config}
 use Rattle.site_config.specs.declared.config.Status.{Status}
 use Rattle.status_worker.specs.Asking.{IfRefused}
 use Rattle.status_worker.specs.Commanding.{FailsChange, FailsOne, FailsWork, no_page_by}
-use Rattle.status_worker.specs.Commands.{AsksDesk, Does, DoesAll, IsRefusedQuery, StopsAt, TurnsAway}
+use Rattle.status_worker.specs.Commands.{AsksDesk, Does, DoesAll, IsRefusedQuery, StopsAtRefused, TurnsAway}
 use Rattle.status_worker.specs.Desks.{DeskSide}
 use Rattle.status_worker.specs.declared.asking.NoPage.{NoPage}
 use Rattle.status_worker.specs.declared.asking.NoPage.TheVariants as no_page
@@ -29,7 +29,7 @@ unasked cfg session status query s (no_page.Refused refusal) refused = inl (refu
 unasked cfg session status query s no_page.NoMemory refused = inl refl
 
 stopped : (cfg : Config) (session : ℕ) (status : Status) (query : Option (List ℕ)) (work : Work) (s n : DeskSide) (error : AdminError FullMark)
-    → AsksDesk cfg status query work → StopsAt session work s n error → FailsChange cfg session status query s n (no_page_by error)
+    → AsksDesk cfg status query work → StopsAtRefused session work s n error → FailsChange cfg session status query s n (no_page_by error)
 stopped cfg session status query work s n admin.UnknownMember asks stops = inr (work, admin.UnknownMember, asks, stops, refl)
 stopped cfg session status query work s n admin.BadValue asks stops = inr (work, admin.BadValue, asks, stops, refl)
 stopped cfg session status query work s n (admin.TooWide mark) asks stops = inr (work, admin.TooWide mark, asks, stops, refl)

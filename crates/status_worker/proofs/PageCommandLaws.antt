@@ -17,7 +17,7 @@ use Rattle.status_worker.specs.declared.texts.ChangeTexts.{ChangeTexts}
 use Rattle.status_worker.specs.declared.texts.Texts.{Texts}
 use Rattle.status_worker.specs.declared.verb.Verb.{Verb}
 use Rattle.status_worker.specs.declared.verb.Verb.TheVariants as verb
-use Rattle.status_worker.specs.PageCommands.{values_of, AreGiven, SaysChange, Asks, page, list, update, reset, recover}
+use Rattle.status_worker.specs.PageCommands.{values_of, AreGiven, ReadsChange, Asks, page, list, update, reset, recover}
 use Rattle.status_worker.specs.Meaning.{verb_named, verb_of, command_by, command_of, command_in}
 use Rattle.status_worker.specs.Names.{has_name, is_lone, are_lone, value_of, texts_of}
 use Rattle.status_worker.specs.Values.{◌>>=◌, activation_of, short_number, redirect_of, given, has_change, changed_by, change_of}
@@ -117,7 +117,7 @@ lone_texts fields lone =
 
 -- ---- the table is read
 
-change_read : (t : ChangeTexts) (c : NamedChange) → SaysChange t c → change_of t ≡ Some c
+change_read : (t : ChangeTexts) (c : NamedChange) → ReadsChange t c → change_of t ≡ Some c
 change_read t c says =
     cond-true (has_change t) (changed_by t) None says.some
     ∙ ap (λ o. o >>= λ a. given short_number t.factor >>= λ f. given short_number t.distance >>= λ d.
@@ -181,7 +181,7 @@ some_mapped : {A B : Type 0} (o : Option A) (f : A → B) (y : B) → option_map
 some_mapped None f y h = cc
 some_mapped (Some x) f y h = (x, refl, cc)
 
-change_says : (t : ChangeTexts) (c : NamedChange) → change_of t ≡ Some c → SaysChange t c
+change_says : (t : ChangeTexts) (c : NamedChange) → change_of t ≡ Some c → ReadsChange t c
 change_says t c means =
     let some = cond_some_of (has_change t) (changed_by t) c means in
     let a = some_bound (given activation_of t.activation) _ c some.1 in

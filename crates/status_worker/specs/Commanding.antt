@@ -6,7 +6,7 @@ use Rattle.lb_model.specs.declared.refusal.AdminError.TheVariants as admin
 use Rattle.lb_model.specs.declared.refusal.FullMark.{FullMark}
 use Rattle.site_config.specs.declared.config.Config.{Config}
 use Rattle.site_config.specs.declared.config.Status.{Status}
-use Rattle.status_worker.specs.Commands.{IsBrokenCommand, IsDone, RefusesOne, StopsAt, TurnsAway}
+use Rattle.status_worker.specs.Commands.{IsBrokenCommand, IsDone, RefusesOne, StopsAtRefused, TurnsAway}
 use Rattle.status_worker.specs.Desks.{DeskSide}
 use Rattle.status_worker.specs.declared.asking.NoPage.{NoPage}
 use Rattle.status_worker.specs.declared.asking.NoPage.TheVariants as no_page
@@ -28,7 +28,7 @@ FailsOne session lb c s n why = (error : AdminError FullMark) × RefusesOne sess
 
 -- a command was refused, after those before it
 abbrev pub FailsWork : (session : ℕ) → Work → DeskSide → DeskSide → NoPage → Type 0
-FailsWork session work s n why = (error : AdminError FullMark) × StopsAt session work s n error × (why ≡ no_page_by error)
+FailsWork session work s n why = (error : AdminError FullMark) × StopsAtRefused session work s n error × (why ≡ no_page_by error)
 
 -- there is no page
 abbrev pub FailsChange : Config → (session : ℕ) → Status → (query : Option (List ℕ)) → DeskSide → DeskSide → NoPage → Type 0

@@ -95,7 +95,7 @@ abbrev pub WorksOn : (session : ℕ) → Work → DeskSide → DeskSide → Type
 WorksOn session work s n = ((work.only ≡ None) × (n ≡ s)) ⊎ ((lb : ℕ) × (work.only ≡ Some lb) × DoesAll session lb work.commands s n)
 
 -- those before the first refused one were done
-pub record StopsAt (session : ℕ) (work : Work) (s n : DeskSide) (error : AdminError FullMark) : Type 0 where
+pub record StopsAtRefused (session : ℕ) (work : Work) (s n : DeskSide) (error : AdminError FullMark) : Type 0 where
   pub lb : ℕ
   pub only : work.only ≡ Some lb
   pub done : List Command
@@ -118,7 +118,7 @@ refusal_by admin.NoMemory = None
 abbrev pub TurnsAway : Config → (session : ℕ) → Status → (query : Option (List ℕ)) → DeskSide → DeskSide → PageRefusal → Type 0
 TurnsAway cfg session status query s n why =
     (IsRefusedQuery cfg status query why × (n ≡ s))
-    ⊎ ((work : Work) × (error : AdminError FullMark) × AsksDesk cfg status query work × StopsAt session work s n error × (refusal_by error ≡ Some why))
+    ⊎ ((work : Work) × (error : AdminError FullMark) × AsksDesk cfg status query work × StopsAtRefused session work s n error × (refusal_by error ≡ Some why))
 
 -- All that was asked was done.
 abbrev pub IsDone : Config → (session : ℕ) → Status → (query : Option (List ℕ)) → DeskSide → DeskSide → (only : Option ℕ) → Type 0
@@ -128,4 +128,4 @@ IsDone cfg session status query s n only =
 -- Memory was wanted before anything was asked, or by a command after those before it.
 abbrev pub IsBrokenCommand : Config → (session : ℕ) → Status → (query : Option (List ℕ)) → DeskSide → DeskSide → Type 0
 IsBrokenCommand cfg session status query s n =
-    (n ≡ s) ⊎ ((work : Work) × AsksDesk cfg status query work × StopsAt session work s n admin.NoMemory)
+    (n ≡ s) ⊎ ((work : Work) × AsksDesk cfg status query work × StopsAtRefused session work s n admin.NoMemory)

@@ -27,7 +27,7 @@ pub record AreGiven (fields : List Field) (t : Texts) : Type 0 where
   pub redirect : values_of fields name.Redirect ≡ option_to_list t.change.redirect
 
 -- one value or more is there, and each says what is to change
-pub record SaysChange (t : ChangeTexts) (c : NamedChange) : Type 0 where
+pub record ReadsChange (t : ChangeTexts) (c : NamedChange) : Type 0 where
   pub some : has_change t ≡ true
   pub activation : given activation_of t.activation ≡ Some c.activation
   pub factor : given short_number t.factor ≡ Some c.factor
@@ -38,7 +38,7 @@ pub record SaysChange (t : ChangeTexts) (c : NamedChange) : Type 0 where
 pub data Asks (t : Texts) : StatusCommand → Type 0 where
   page : t.command ≡ None → Asks t (command.List t.worker)
   list : t.command ≡ Some (codes "list") → Asks t (command.List t.worker)
-  update : {w sw : List ℕ} {c : NamedChange} → t.command ≡ Some (codes "update") → t.worker ≡ Some w → t.member ≡ Some sw → SaysChange t.change c
+  update : {w sw : List ℕ} {c : NamedChange} → t.command ≡ Some (codes "update") → t.worker ≡ Some w → t.member ≡ Some sw → ReadsChange t.change c
       → Asks t (command.Update w sw c)
   reset : {w : List ℕ} → t.command ≡ Some (codes "reset") → t.worker ≡ Some w → Asks t (command.Reset w t.member)
   recover : {w sw : List ℕ} → t.command ≡ Some (codes "recover") → t.worker ≡ Some w → t.member ≡ Some sw → Asks t (command.Recover w sw)
