@@ -1,12 +1,15 @@
 -- A talk of which the law speaks: GET of a path where the container has no application.
-use Rattle.std.proofs.Common.{◌≡◌, ℕ, zero, suc, ◌+◌, ◌^◌, ◌<◌, ◌≤◌, Bool, true, false, IsTrue, List, [], ◌∷◌, ◌++◌, length, reverse, slice_index, codes, Some, None, Ok, All, refl, sym, ap, subst, ◌∙◌, arith, inl, append-nil, leb-true, length-append, ltb-true}
-use Rattle.std.specs.Prelude.{if◌then◌else◌}
+use Rattle.std.proofs.Common.{◌≡◌, ℕ, zero, suc, ◌+◌, ◌^◌, ◌<◌, ◌≤◌, Bool, true, false, IsTrue, List, [], ◌∷◌, ◌++◌, length, reverse, slice_index, take, codes, Option, Some, None, Ok, All, refl, sym, ap, subst, ◌∙◌, arith, inl, append-nil, leb-true, length-append, ltb-true}
+use Rattle.std.specs.Prelude.{IfSome, if◌then◌else◌}
 use Rattle.std.proofs.lemmas.List.Sums.{AllPass-from_list_all}
 use Rattle.std.proofs.lemmas.Str.{IsUtf8-from_ascii}
 use Rattle.std.specs.Fmt.{digits}
 use Rattle.percent_encoding.specs.Percent.{percent_decode}
 use Rattle.httparse.specs.Grammar.{Field, IsField, IsRequestHead, RequestHead, crlf, is_token_byte, is_uri_byte, is_value_byte, print_request, ReadsRequest, trim_ows}
 use Rattle.jk_io.specs.Moments.{Moment}
+use Rattle.jk_io.specs.Talks.{IsNoteOf, talk_of}
+use Rattle.jk_io.specs.declared.reaching.Begun.{Begun}
+use Rattle.jk_io.specs.declared.reaching.Talk.{Talk}
 use Rattle.lb_model.specs.declared.ask.Terms.{Terms}
 use Rattle.lb_model.specs.declared.member.MemberConfig.{MemberConfig}
 use Rattle.ajp_wire.specs.Packet.{FitsPacket, packet}
@@ -18,16 +21,22 @@ use Rattle.ajp_reply.specs.Stream.{Spelled}
 use Rattle.ajp_reply.specs.declared.message.Message.{Message}
 use Rattle.ajp_reply.specs.declared.message.Message.TheVariants.{Headers, Chunk, End}
 use Rattle.ajp_reply.specs.declared.message.ReplyParts.{ReplyParts}
-use Rattle.ajp_talk.specs.Moments.{TalkMoment}
+use Rattle.ajp_talk.specs.Moments.{BodyAt, TalkMoment, data_at}
 use Rattle.ajp_talk.specs.Owed.{opening, ping_of, pong_of}
 use Rattle.ajp_talk.specs.Replies.{agrees, chunks_of, head_out, is_good, is_listed, kind_of, told_by, whole_of}
 use Rattle.ajp_talk.specs.Talk.{IsDone}
+use Rattle.ajp_talk.specs.declared.ending.TalkEnd.TheVariants as ends
+use Rattle.ajp_talk.specs.declared.ending.Told.{Told}
 use Rattle.ajp_talk.specs.declared.plan.TalkPlan.{TalkPlan}
+use Rattle.ajp_talk.proofs.CompleteLaws.{completed}
+use Rattle.exchange.specs.Clients.{HasLastTalk}
+use Rattle.exchange.specs.OneTalk.{Around, begun_with}
+use Rattle.exchange.specs.Requests.{Errand}
 use Rattle.http_front.specs.Request.{IsHeadOf, judged}
 use Rattle.http_front.specs.declared.head_lines.TheConstants.{MAX_HEAD_LINES}
 use Rattle.http_front.specs.declared.inbox.TheConstants.{MAX_HEAD_BYTES}
 use Rattle.http_front.specs.Cut.{header_lines}
-use Rattle.http_front.specs.Body.{ended_at}
+use Rattle.http_front.specs.Body.{Data, dropped, ended_at}
 use Rattle.http_front.specs.State.{failed_of, place_of}
 use Rattle.http_front.specs.declared.body.BodyIn.{BodyIn}
 use Rattle.http_front.specs.declared.place.Place.{Place}
@@ -45,8 +54,9 @@ use Rattle.ajp_container.specs.declared.app_config.AppConfig.{AppConfig}
 use Rattle.ajp_container.specs.declared.application.Application.TheVariants.{Unknown}
 use Rattle.ajp_container.specs.declared.ends.Stopped.TheVariants.{Closed}
 use Rattle.ajp_container.proofs.SentLaws.{owed-spelled}
+use Rattle.drill.specs.FirstExchange.{FirstExchange}
 use Rattle.drill.specs.FirstGet.{FirstGet, first_bytes, first_errand, first_head, first_reply, no_data}
-use Rattle.drill.specs.Meeting.{IsDoneWith, IsRequest, forwarded, plan_on}
+use Rattle.drill.specs.Meeting.{IsDoneWith, IsExchangeWith, IsRequest, forwarded, front_of, plan_on}
 
 -- ---- the head
 
@@ -393,6 +403,146 @@ first_get app balancer member endpoint body session lb terms dialled sent receiv
         sent_before = sent;
         received_before = received;
         answered_before = answered;
+        had_sent = refl;
+        had_received = refl;
+        sent = refl;
+        received = refl;
+        to_come = refl;
+        had_answered = refl;
+        answers = refl;
+      };
+      spelled = subst (λ (g : Forward). SpellsForward (as_read sent_forward) (payload_of g)) (sym same) spelled;
+      answered = rw is.app_secret refl;
+    }
+
+-- ---- an exchange
+
+-- a note of which all is told is this one
+note_is : (b : Begun) (sent received : List ℕ) (keep : Bool) (note : Talk) → IsNoteOf (Some b) (Some sent) (Some received) keep note → note ≡ talk_of b sent received keep
+note_is b sent received keep note is =
+    ap (λ (x : Begun). talk_of x note.sent note.received note.keep) (sym is.begun_with)
+    ∙ ap (λ (x : List ℕ). talk_of b x note.received note.keep) (sym is.sent_in)
+    ∙ ap (λ (x : List ℕ). talk_of b sent x note.keep) (sym is.received_in)
+    ∙ ap (λ (x : Bool). talk_of b sent received x) (sym is.kept)
+
+pub first_exchange : FirstExchange
+unfolding link talk_moment
+first_exchange app balancer m member endpoint body session lb terms dialled failed is configured reached =
+    (as_read sent_forward, moment [] [], moment (failed ++ note ∷ []) first_reply, held, refl, refl, refl, refl)
+  where
+    q : Errand
+    q = first_errand session lb balancer terms
+
+    put : List ℕ
+    put = packet false (payload_of sent_forward)
+
+    answer : List ℕ
+    answer = bytes_of (owed app turn)
+
+    plan : TalkPlan
+    plan = plan_on q [] member endpoint dialled
+
+    ping : List ℕ
+    ping = ping_of plan
+
+    pong : List ℕ
+    pong = pong_of plan
+
+    opened : Moment
+    opened = link (pong ++ answer) [] []
+
+    closed : Moment
+    closed = link [] (pong ++ answer) (ping ++ put)
+
+    note : Talk
+    note = talk_of (begun_with lb m endpoint dialled dialled opened) (ping ++ put) (pong ++ answer) true
+
+    told : Told
+    told = told_by (kind_of plan) parts (chunks_of past)
+
+    moved : ℕ
+    moved = length (ping ++ put) + length (pong ++ answer)
+
+    own : BodyAt
+    own = record { body = body; unread = Some [] }
+
+    moment : List Talk → (sent : List ℕ) → Around
+    moment talks sent = record {
+      talks = Some talks;
+      faults = 0;
+      client = record { incoming = Some []; received = Some first_bytes; sent = Some sent; faults = 0 };
+      body = own;
+    }
+
+    same : forwarded q member endpoint ≡ sent_forward
+    same = forwarded-is balancer member endpoint session lb terms is.direct is.secret
+
+    there : data_at own ≡ Some no_data
+    there = ap (λ (p : Place). Some (ended_at p)) is.no_body
+
+    done : IsDone plan (talk_moment body opened []) (talk_moment body closed first_reply) told true moved
+    done = connector plan body (payload_of sent_forward) answer [] [] is.packet
+        (ap (λ (g : Forward). packet false (payload_of g)) same) refl refl refl is.unlisted is.going (answer-spelled app is.app_packet is.app_secret)
+        (answer-short app is.app_packet is.app_secret)
+
+    last : HasLastTalk q m (moment [] []) (moment (failed ++ note ∷ []) first_reply) (ends.Done told true moved)
+    last = record {
+      config = member;
+      endpoint = endpoint;
+      configured = configured;
+      reached = reached;
+      first = [];
+      fresh = dialled;
+      begun = moment failed [];
+      piece = subst (λ (o : Option Data). IfSome o (λ d. [] ≡ take (front_of q) d.bytes)) (sym there) refl;
+      takes = record { uses = Uses-nil (Some []) (place_of body); counted = omega arith; going = is.going; most = refl };
+      left = there ∙ ap (dropped (front_of q)) (sym there);
+      unwritten = refl;
+      others = failed;
+      noted = refl;
+      talk = record {
+        dialled = dialled;
+        opened = opened;
+        closed = closed;
+        new_link = λ new. new;
+        nothing_yet = (refl, refl);
+        talk = done;
+        complete = λ all whole. completed plan (talk_moment body opened []) (talk_moment body closed first_reply) all whole (Ok (ends.Done told true moved)) done;
+        noted = λ other is_note.
+            ap (λ (t : Talk). Some (failed ++ t ∷ []))
+            (sym (note_is (begun_with lb m endpoint dialled dialled opened) (ping ++ put) (pong ++ answer) true other is_note));
+        faults_before = refl;
+        faults_within = omega arith;
+        faults_after = refl;
+        client_faults = omega arith;
+        calm = λ calm. refl;
+      };
+    }
+
+    held : IsExchangeWith app q m no_data (as_read sent_forward) (moment [] []) (moment (failed ++ note ∷ []) first_reply)
+    held = record {
+      told = told;
+      reuse = true;
+      moved = moved;
+      before = link (ping ++ put) [] [];
+      after = link [] (ping ++ put) (pong ++ answer);
+      end = end_of 1 Closed;
+      last = last;
+      request = request;
+      there = there;
+      size = is.packet ∙ sym is.app_packet;
+      fits = record {
+        fields = subst FieldsFit (sym same) fields-fit;
+        packet = subst (λ (k : ℕ). FitsPacket k (payload_of (forwarded q member endpoint))) (sym is.packet)
+            (subst (λ (g : Forward). FitsPacket 8192 (payload_of g)) (sym same) packet-fits);
+      };
+      container = container app plan.ping [] is.app_packet is.app_secret;
+      meet = record {
+        asked = ping ++ put;
+        answered = pong ++ answer;
+        sent_before = [];
+        received_before = [];
+        answered_before = [];
         had_sent = refl;
         had_received = refl;
         sent = refl;

@@ -2,6 +2,7 @@ pub mod Bodies
 pub mod Counts
 pub mod Drills
 pub mod Ends
+pub mod FirstExchange
 pub mod FirstGet
 pub mod FirstPost
 pub mod Meeting

@@ -1,4 +1,5 @@
 //! Laws of a talk's two ends: consequences of the definitions alone, whatever the calls do.
+ghost use Rattle.drill.specs.FirstExchange.{FirstExchange};
 ghost use Rattle.drill.specs.FirstGet.{FirstGet};
 ghost use Rattle.drill.specs.FirstPost.{FirstPost};
 ghost use Rattle.drill.specs.Meeting.{EndToEnd, EndToEndOfExchange, GoesOnAsNew};
@@ -29,4 +30,9 @@ pub fn a_first_get_is_answered()
 /// And one with a body: a POST of five bytes to `/echo` gets them back.
 pub fn a_post_gets_its_own_bytes()
     ensures { FirstPost }
+{}
+
+/// The law of exchanges has instances too: those whose last talk is that GET, whatever talks failed before it.
+pub fn an_exchange_is_answered()
+    ensures { FirstExchange }
 {}

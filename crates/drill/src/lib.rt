@@ -37,6 +37,7 @@ pub use drill_error::{DrillError, Drilled};
 pub use laws::{
     a_container_goes_on_after_each_turn, a_first_get_is_answered, a_post_gets_its_own_bytes,
     a_reply_is_the_applications_answer, an_exchange_gives_the_applications_answer,
+    an_exchange_is_answered,
 };
 pub use plan::{MAX_REQUESTS, MAX_THREADS};
 pub use running::run_drill;
