@@ -149,6 +149,9 @@ ends visit told of first before mid after s m n count link peer end way gives se
 none_or_some : (was : Option IoError) → was ≡ None → was ≡ Some io.Failed → ⊥
 none_or_some was none some = cc
 
+not_both : (broken : Option IoError) → broken ≡ Some io.NoMemory → broken ≡ Some io.Failed → ⊥
+not_both broken wanted failed = cc
+
 rose_of : (was before : Option IoError) (faults faults' : ℕ) → was ≡ None → (before ≡ Some io.Failed → was ≡ Some io.Failed)
     → (before ≡ Some io.Failed) ⊎ Rose faults faults' → Rose faults faults'
 rose_of was before faults faults' sound calm (inl failed) = absurd (none_or_some was sound (calm failed))
@@ -166,14 +169,19 @@ pub settles_so : {S Y L : Type 0} → (of : WorkerTells S Y) (from to : WorkerSi
 settles_so of from to n end None None is loud by = (record { desk = by.0; logged = is }, by.1)
 settles_so of from to n end None (Some (worker.Closed sessions)) is loud by = absurd by.0
 settles_so of from to n end None (Some worker.DoorFault) is loud by = absurd by.0
-settles_so of from to n end None (Some worker.ShelfFault) is loud by = ((is, by.0), by.1)
+settles_so of from to n end None (Some worker.ShelfFault) is loud by = ((λ failed. none_or_some _ is failed, by.0), by.1)
 settles_so of from to n end None (Some worker.LogFault) is loud by = absurd by.0
 settles_so of from to n end None (Some (worker.Stray stray)) is loud by = ((is, by.0), by.1)
 settles_so of from to n end None (Some worker.NoMemory) is loud by = (inr (is, by.0), by.1)
 settles_so {L = L} of from to n end (Some io.Failed) settled' is loud by =
     subst (λ (e : Option (WorkerEnd L)). Settles of from to n end e) (sym by.0) ((is, loud refl), by.1)
-settles_so {L = L} of from to n end (Some io.NoMemory) settled' is loud by =
-    subst (λ (e : Option (WorkerEnd L)). Settles of from to n end e) (sym by.0) (inl is, by.1)
+settles_so of from to n end (Some io.NoMemory) None is loud by = absurd by
+settles_so of from to n end (Some io.NoMemory) (Some (worker.Closed sessions)) is loud by = absurd by.0
+settles_so of from to n end (Some io.NoMemory) (Some worker.DoorFault) is loud by = absurd by.0
+settles_so of from to n end (Some io.NoMemory) (Some worker.ShelfFault) is loud by = ((λ failed. not_both _ is failed, by.0), by.1)
+settles_so of from to n end (Some io.NoMemory) (Some worker.LogFault) is loud by = absurd by.0
+settles_so of from to n end (Some io.NoMemory) (Some (worker.Stray stray)) is loud by = absurd by.0
+settles_so of from to n end (Some io.NoMemory) (Some worker.NoMemory) is loud by = (inl (is, by.0), by.1)
 
 -- a desk that forgot its receipts, part by part
 pub desk_forgot : {S : Type 0} (d n : SharedState S) → n.desk ≡ record d.desk { receipts = [] } → n.forgotten ≡ d.forgotten + length d.desk.receipts

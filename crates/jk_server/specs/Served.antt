@@ -92,18 +92,18 @@ pub record WorkerGoesOn {S Y : Type 0} (of : WorkerTells S Y) (from to : WorkerS
   pub desk : DeskGoesOn of.shelf_faults from.desk to.desk end.stop
   pub logged : of.log.broken_by to.log ≡ None
 
--- Why a worker ended right after a session. A log that broke goes before all that its desk says, since it alone leaves rows
--- out.
+-- Why a worker ended right after a session. A log that broke goes before what its desk says, since it alone leaves rows out, but
+-- one that wanted memory goes after a fault of the shelf.
 abbrev pub EndsAfter : {S Y L : Type 0} → WorkerTells S Y → (from to : WorkerSide S Y) → SessionEnd → WorkerEnd L → Type 0
 EndsAfter {L = L} of from to end (worker.Closed sessions) = DeskEnds {L = L} of.shelf_faults from.desk to.desk end.stop (worker.Closed sessions)
 EndsAfter {L = L} of from to end worker.DoorFault = DeskEnds {L = L} of.shelf_faults from.desk to.desk end.stop worker.DoorFault
 EndsAfter {L = L} of from to end worker.ShelfFault =
-    (of.log.broken_by to.log ≡ None) × DeskEnds {L = L} of.shelf_faults from.desk to.desk end.stop worker.ShelfFault
+    (of.log.broken_by to.log ≡ Some io.Failed → ⊥) × DeskEnds {L = L} of.shelf_faults from.desk to.desk end.stop worker.ShelfFault
 EndsAfter of from to end worker.LogFault = (of.log.broken_by to.log ≡ Some io.Failed) × Rose (of.log.faults from.log) (of.log.faults to.log)
 EndsAfter {L = L} of from to end (worker.Stray stray) =
     (of.log.broken_by to.log ≡ None) × DeskEnds {L = L} of.shelf_faults from.desk to.desk end.stop (worker.Stray stray)
 EndsAfter {L = L} of from to end worker.NoMemory =
-    (of.log.broken_by to.log ≡ Some io.NoMemory)
+    ((of.log.broken_by to.log ≡ Some io.NoMemory) × (of.shelf_faults to.desk.shelf ≡ of.shelf_faults from.desk.shelf))
     ⊎ ((of.log.broken_by to.log ≡ None) × DeskEnds {L = L} of.shelf_faults from.desk to.desk end.stop worker.NoMemory)
 
 -- the desk once its worker ended; a stray that the worker took is no more with the desk
@@ -165,11 +165,18 @@ abbrev pub DeskSettles : {S L : Type 0} → (S → ℕ) → (from to n : SharedS
 DeskSettles faults from to n end None = DeskGoesOn faults from to end × (n ≡ to)
 DeskSettles faults from to n end (Some worker_end) = DeskEnds faults from to end worker_end × (n ≡ left_by worker_end to)
 
+-- How a worker ends whose log wanted memory: a fault of the shelf goes before that.
+abbrev pub EndsWanting : {S L : Type 0} → (S → ℕ) → (from to : SharedState S) → WorkerEnd L → Type 0
+EndsWanting faults from to worker.ShelfFault = Rose (faults from.shelf) (faults to.shelf)
+EndsWanting faults from to worker.NoMemory = faults to.shelf ≡ faults from.shelf
+EndsWanting faults from to _ = ⊥
+
 -- The same with its log, of which this broke it.
 abbrev pub SettlesBy : {S L : Type 0} → (broken : Option IoError) → (S → ℕ) → (from to n : SharedState S) → SessionStop → Option (WorkerEnd L) → Type 0
 SettlesBy None faults from to n end settled = DeskSettles faults from to n end settled
 SettlesBy (Some io.Failed) faults from to n end settled = (settled ≡ Some worker.LogFault) × (n ≡ to)
-SettlesBy (Some io.NoMemory) faults from to n end settled = (settled ≡ Some worker.NoMemory) × (n ≡ to)
+SettlesBy (Some io.NoMemory) faults from to n end None = ⊥
+SettlesBy (Some io.NoMemory) faults from to n end (Some worker_end) = EndsWanting faults from to worker_end × (n ≡ to)
 
 -- The same of the worker.
 abbrev pub Settles : {S Y L : Type 0} → WorkerTells S Y → (from to : WorkerSide S Y) → (n : SharedState S) → SessionEnd → Option (WorkerEnd L) → Type 0

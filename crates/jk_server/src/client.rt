@@ -88,7 +88,8 @@ fn end_after<L: SiteName, S: Shelf, W>(
     None
 }
 
-/// Whether a worker ends after a session, and how: a log that broke goes first.
+/// Whether a worker ends after a session, and how: a log that failed goes first, and one that wanted memory right after a fault of
+/// the shelf.
 fn end_by<L: SiteName, S: Shelf, W>(
     broken: Option<IoError>,
     desk: &mut SharedDesk<'_, '_, L, S, W>,
@@ -101,6 +102,9 @@ fn end_by<L: SiteName, S: Shelf, W>(
     match broken {
         None => end_after(desk, before, stop),
         Some(IoError::Failed) => Some(WorkerEnd::LogFault),
+        Some(IoError::NoMemory) if before.faults < desk.shelf_faults() => {
+            Some(WorkerEnd::ShelfFault)
+        }
         Some(IoError::NoMemory) => Some(WorkerEnd::NoMemory),
     }
 }
