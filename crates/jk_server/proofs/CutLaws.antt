@@ -105,10 +105,11 @@ closes_said {D} {G} {T} {K} {S} {O} at talks answers shelved faults lbs sizes fi
 )
 closes_said {D} {G} {T} {K} {S} {O} at talks answers shelved faults lbs sizes firsts starts seats moment begun left back closing.NoMemory same_sizes same_firsts same_starts begins (inl none) =
     ([], inl (ap (λ (gs : List (Gear D G T K S O)). map (gear_side at talks answers) gs) none))
-closes_said at talks answers shelved faults lbs sizes firsts starts seats moment begun left back closing.NoMemory same_sizes same_firsts same_starts begins (inr keeps) =
-    let said = kept_said at talks answers (AddsFront shelved) (ShelvesFront shelved lbs moment seats) (AreClosed sizes firsts starts seats) (AreEnded lbs moment seats) left back
+closes_said {S = S} at talks answers shelved faults lbs sizes firsts starts seats moment begun left back closing.NoMemory same_sizes same_firsts same_starts begins (inr keeps) =
+    let said = kept_said at talks answers (λ (books : List Journal) (x y : S). AddsFront shelved books x y × (faults y ≡ faults x))
+    (λ (books : List Journal) (x y : S). ShelvesFront shelved lbs moment seats books x y × (faults y ≡ faults x)) (AreClosed sizes firsts starts seats) (AreEnded lbs moment seats) left back
     (λ books closed. ended_said lbs sizes firsts starts seats moment begun books same_sizes same_firsts same_starts begins closed)
-    (λ books x y ended front. (ended, front)) keeps in
+    (λ books x y ended kept. ((ended, kept.0), kept.1)) keeps in
     (said.0, inr said.1)
 
 -- So of the whole lists that were lent.

@@ -40,10 +40,11 @@ pub record IsDiscordOf (lbs : List Lb) (at : ℕ) (seats : List SeatNote) (books
   pub receipts : List (ℕ × Entry)
   pub discord : IsDiscord receipts (kept_from 0 books) d
 
--- The Books that the closing took, by each of its ends.
+-- The Books that the closing took, by each of its ends. Want of memory hides no fault of the shelf.
 abbrev pub Closes : {C S O L : Type 0} → (S → Option (List (ℕ × Segment))) → (S → ℕ) → List Lb → (at : ℕ) → List SeatNote → List Journal → (left back : List (GearSide C S O)) → Closing L → Type 0
 Closes shelved faults lbs at seats books left back closing.Kept = KeepsFirst (Shelves shelved lbs at seats books) left back
 Closes shelved faults lbs at seats books left back closing.ShelfFault =
     KeepsFirst (λ old new. ShelvesFront shelved lbs at seats books old new × Rose (faults old) (faults new)) left back
 Closes shelved faults lbs at seats books left back (closing.Differs d) = IsDiscordOf lbs at seats books d × (back ≡ [])
-Closes shelved faults lbs at seats books left back closing.NoMemory = (back ≡ []) ⊎ KeepsFirst (ShelvesFront shelved lbs at seats books) left back
+Closes shelved faults lbs at seats books left back closing.NoMemory =
+    (back ≡ []) ⊎ KeepsFirst (λ old new. ShelvesFront shelved lbs at seats books old new × (faults new ≡ faults old)) left back

@@ -29,14 +29,15 @@ KeepsCuts Kept Ended left back = (books : List Journal) × Ended books × ToFirs
 abbrev pub IsDiscordAt : (sizes firsts : List ℕ) → (starts : List Opening) → (seats : List SeatNote) → DiscordNote → Type 0
 IsDiscordAt sizes firsts starts seats d = (entries : ℕ) × (receipts : List (ℕ × Entry)) × DiffersWhole starts seats sizes firsts entries receipts d
 
--- The gears as the workers left them and as they came back, by each end of the closing.
+-- The gears as the workers left them and as they came back, by each end of the closing. Want of memory hides no fault of the shelf.
 abbrev pub EndsSo : {D G T K S O L : Type 0} → (S → Option (List (ℕ × Segment))) → (S → ℕ) → (sizes firsts : List ℕ) → (starts : List Opening) → (seats : List SeatNote) → (left back : List (Gear D G T K S O)) → Closing L → Type 0
 EndsSo shelved faults sizes firsts starts seats left back closing.Kept = KeepsCuts (AddsCuts shelved) (AreClosed sizes firsts starts seats) left back
 EndsSo shelved faults sizes firsts starts seats left back closing.ShelfFault =
     KeepsCuts (λ books old new. AddsFront shelved books old new × Rose (faults old) (faults new)) (AreClosed sizes firsts starts seats) left back
 EndsSo shelved faults sizes firsts starts seats left back (closing.Differs d) = IsDiscordAt sizes firsts starts seats d × (back ≡ [])
 EndsSo shelved faults sizes firsts starts seats left back closing.NoMemory =
-    (back ≡ []) ⊎ KeepsCuts (AddsFront shelved) (AreClosed sizes firsts starts seats) left back
+    (back ≡ [])
+    ⊎ KeepsCuts (λ books old new. AddsFront shelved books old new × (faults new ≡ faults old)) (AreClosed sizes firsts starts seats) left back
 
 -- The same of Books that are closed, whatever Site they are of and whichever history made them what they are.
 abbrev pub EndsByBooks : {D G T K S O L : Type 0} → (S → Option (List (ℕ × Segment))) → (S → ℕ) → List Journal → (left back : List (Gear D G T K S O)) → Closing L → Type 0
