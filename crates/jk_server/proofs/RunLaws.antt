@@ -106,7 +106,7 @@ goes_on {C} {S} {Y} {L} visit told of first before mid after s m n k count next 
 pub rest_wants : {C S Y L X : Type 0} → (visit : Peer → Visit) (told : Ghosts C X) (of : WorkerTells S Y) (first now : DoorSide C) (s n : WorkerSide S Y) (count : ℕ)
     → IsUnderWay visit told of first now s n count → IsServed {L = L} visit told of first now s n worker.NoMemory
 rest_wants visit told of first now s n count way =
-    record { runs = way.runs; clients = way.clients; sessions = way.sessions; why = inl (way.rested, way.steady) }
+    record { runs = way.runs; clients = way.clients; sessions = way.sessions; why = (inl way.rested, way.steady) }
 
 -- ---- the end right after a session
 
@@ -124,15 +124,15 @@ ends_at_last {C} {S} {Y} visit told of mid after s m n runs link peer end rested
   left = serves.same ∙ ap (λ (d : SharedState S). record serves.to { desk = d }) serves.settles.1;
 }
 
--- an end right after a session is an end
+-- an end right after a session is an end, if no call of the door had failed
 ends_by : {C S Y L : Type 0} → (of : WorkerTells S Y) (before after : DoorSide C) (s n : WorkerSide S Y) (runs : List (Run C S Y)) (end : WorkerEnd L)
-    → EndsAtLast of s n runs end → EndsBy of before after s n runs end
-ends_by of before after s n runs (worker.Closed sessions) at = absurd at.why
-ends_by of before after s n runs worker.DoorFault at = absurd at.why
-ends_by of before after s n runs worker.ShelfFault at = at
-ends_by of before after s n runs worker.LogFault at = at
-ends_by of before after s n runs (worker.Stray stray) at = at
-ends_by of before after s n runs worker.NoMemory at = inr at
+    → EndsAtLast of s n runs end → after.faults ≡ before.faults → EndsBy of before after s n runs end
+ends_by of before after s n runs (worker.Closed sessions) at steady = absurd at.why
+ends_by of before after s n runs worker.DoorFault at steady = absurd at.why
+ends_by of before after s n runs worker.ShelfFault at steady = (at, steady)
+ends_by of before after s n runs worker.LogFault at steady = (at, steady)
+ends_by of before after s n runs (worker.Stray stray) at steady = (at, steady)
+ends_by of before after s n runs worker.NoMemory at steady = (inr at, steady)
 
 pub ends : {C S Y L X : Type 0} → (visit : Peer → Visit) (told : Ghosts C X) (of : WorkerTells S Y) (first before mid after : DoorSide C) (s m n : WorkerSide S Y) (count : ℕ) (link : C) (peer : Peer) (end : WorkerEnd L)
     → IsUnderWay visit told of first before s m count → Gives before mid link peer
@@ -141,7 +141,8 @@ ends visit told of first before mid after s m n count link peer end way gives se
   runs = way.runs ++ run_of visit told of mid after m n link peer (Some end) serves ∷ [];
   clients = clients_more visit told of first before mid after m n way.runs link peer (Some end) way.clients gives serves;
   sessions = All-push (IsRun visit told of) way.runs _ way.sessions serves.run;
-  why = ends_by of first after s n _ end (ends_at_last visit told of mid after s m n way.runs link peer end way.rested serves);
+  why = ends_by of first after s n _ end (ends_at_last visit told of mid after s m n way.runs link peer end way.rested serves)
+      (serves.door_faults ∙ (gives.faults ∙ way.steady));
 }
 
 -- ---- one client
@@ -247,7 +248,7 @@ lacks visit told of first before after s n count way none steady = record {
   runs = way.runs;
   clients = none_more first before after _ _ way.clients none;
   sessions = way.sessions;
-  why = inl (way.rested, steady ∙ way.steady);
+  why = (inl way.rested, steady ∙ way.steady);
 }
 
 -- ---- the next client

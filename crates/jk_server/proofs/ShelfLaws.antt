@@ -82,11 +82,11 @@ module _ {C S Y X : Type 0} (visit : Peer → Visit) (told : Ghosts C X) (of : W
       → All (IsRun visit told of) runs → WasCut s.desk.seat n.desk.seat runs
   cut_by before after s n runs (worker.Closed sessions) why all = cut_rested s n runs why.1 all
   cut_by before after s n runs worker.DoorFault why all = cut_rested s n runs why.0 all
-  cut_by {L = L} before after s n runs worker.ShelfFault why all = cut_at_last {L = L} s n runs worker.ShelfFault why all
-  cut_by {L = L} before after s n runs worker.LogFault why all = cut_at_last {L = L} s n runs worker.LogFault why all
-  cut_by {L = L} before after s n runs (worker.Stray stray) why all = cut_at_last {L = L} s n runs (worker.Stray stray) why all
-  cut_by {L = L} before after s n runs worker.NoMemory (inl why) all = cut_rested s n runs why.0 all
-  cut_by {L = L} before after s n runs worker.NoMemory (inr why) all = cut_at_last {L = L} s n runs worker.NoMemory why all
+  cut_by {L = L} before after s n runs worker.ShelfFault why all = cut_at_last {L = L} s n runs worker.ShelfFault why.0 all
+  cut_by {L = L} before after s n runs worker.LogFault why all = cut_at_last {L = L} s n runs worker.LogFault why.0 all
+  cut_by {L = L} before after s n runs (worker.Stray stray) why all = cut_at_last {L = L} s n runs (worker.Stray stray) why.0 all
+  cut_by {L = L} before after s n runs worker.NoMemory (inl why, steady) all = cut_rested s n runs why all
+  cut_by {L = L} before after s n runs worker.NoMemory (inr why, steady) all = cut_at_last {L = L} s n runs worker.NoMemory why all
 
   -- All sessions of a worker.
   pub cut_served : {L : Type 0} (before after : DoorSide C) (s n : WorkerSide S Y) (end : WorkerEnd L) (served : IsServed visit told of before after s n end)

@@ -96,11 +96,11 @@ module _ {C S Y X : Type 0} (visit : Peer → Visit) (told : Ghosts C X) (of : W
       → All (IsRun visit told of) runs → s.desk.desk.met ≡ None → MetNoStray runs → HaveReturned (told_in runs)
   served_back before after s n runs (worker.Closed sessions) why all none calm = (rested_back s n runs why.1 all none).0
   served_back before after s n runs worker.DoorFault why all none calm = (rested_back s n runs why.0 all none).0
-  served_back {L = L} before after s n runs worker.ShelfFault why all none calm = last_back {L = L} s n runs worker.ShelfFault why all none calm
-  served_back {L = L} before after s n runs worker.LogFault why all none calm = last_back {L = L} s n runs worker.LogFault why all none calm
-  served_back {L = L} before after s n runs (worker.Stray stray) why all none calm = last_back {L = L} s n runs (worker.Stray stray) why all none calm
-  served_back {L = L} before after s n runs worker.NoMemory (inl why) all none calm = (rested_back s n runs why.0 all none).0
-  served_back {L = L} before after s n runs worker.NoMemory (inr why) all none calm = last_back {L = L} s n runs worker.NoMemory why all none calm
+  served_back {L = L} before after s n runs worker.ShelfFault why all none calm = last_back {L = L} s n runs worker.ShelfFault why.0 all none calm
+  served_back {L = L} before after s n runs worker.LogFault why all none calm = last_back {L = L} s n runs worker.LogFault why.0 all none calm
+  served_back {L = L} before after s n runs (worker.Stray stray) why all none calm = last_back {L = L} s n runs (worker.Stray stray) why.0 all none calm
+  served_back {L = L} before after s n runs worker.NoMemory (inl why, steady) all none calm = (rested_back s n runs why all none).0
+  served_back {L = L} before after s n runs worker.NoMemory (inr why, steady) all none calm = last_back {L = L} s n runs worker.NoMemory why all none calm
 
   -- A worker's end that tells a stray.
   pub served_names : {L : Type 0} (before after : DoorSide C) (s n : WorkerSide S Y) (runs : List (Run C S Y)) (end : WorkerEnd L) → EndsBy of before after s n runs end
@@ -109,7 +109,7 @@ module _ {C S Y X : Type 0} (visit : Peer → Visit) (told : Ghosts C X) (of : W
   served_names before after s n runs worker.DoorFault why sessions none = tt
   served_names before after s n runs worker.ShelfFault why sessions none = tt
   served_names before after s n runs worker.LogFault why sessions none = tt
-  served_names before after s n runs (worker.Stray note) at sessions none =
+  served_names before after s n runs (worker.Stray note) (at, steady) sessions none =
       let all : All (IsRun visit told of) (at.before ++ at.last ∷ []) = subst (λ (rs : List (Run C S Y)). All (IsRun visit told of) rs) at.split sessions in
       let first = rested_back s at.mid at.before at.rested (all_front (IsRun visit told of) at.before (at.last ∷ []) all) none in
       let run = all_last (IsRun visit told of) at.before at.last all in (

@@ -124,11 +124,11 @@ module _ {C S Y X : Type 0} (visit : Peer → Visit) (told : Ghosts C X) (of : W
       → All (IsRun visit told of) runs → WasTold s.desk.seat n.desk.seat (told_in runs)
   told_by before after s n runs (worker.Closed sessions) why all = told_rested s n runs why.1 all
   told_by before after s n runs worker.DoorFault why all = told_rested s n runs why.0 all
-  told_by {L = L} before after s n runs worker.ShelfFault why all = told_at_last {L = L} s n runs worker.ShelfFault why all
-  told_by {L = L} before after s n runs worker.LogFault why all = told_at_last {L = L} s n runs worker.LogFault why all
-  told_by {L = L} before after s n runs (worker.Stray stray) why all = told_at_last {L = L} s n runs (worker.Stray stray) why all
-  told_by {L = L} before after s n runs worker.NoMemory (inl why) all = told_rested s n runs why.0 all
-  told_by {L = L} before after s n runs worker.NoMemory (inr why) all = told_at_last {L = L} s n runs worker.NoMemory why all
+  told_by {L = L} before after s n runs worker.ShelfFault why all = told_at_last {L = L} s n runs worker.ShelfFault why.0 all
+  told_by {L = L} before after s n runs worker.LogFault why all = told_at_last {L = L} s n runs worker.LogFault why.0 all
+  told_by {L = L} before after s n runs (worker.Stray stray) why all = told_at_last {L = L} s n runs (worker.Stray stray) why.0 all
+  told_by {L = L} before after s n runs worker.NoMemory (inl why, steady) all = told_rested s n runs why all
+  told_by {L = L} before after s n runs worker.NoMemory (inr why, steady) all = told_at_last {L = L} s n runs worker.NoMemory why all
 
   -- All sessions of a worker.
   pub told_served : {L : Type 0} (before after : DoorSide C) (s n : WorkerSide S Y) (end : WorkerEnd L) (served : IsServed visit told of before after s n end)

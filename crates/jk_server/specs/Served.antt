@@ -138,17 +138,18 @@ pub record EndsAtLast {C S Y L : Type 0} (of : WorkerTells S Y) (s n : WorkerSid
 abbrev pub count_of : {C S Y : Type 0} → List (Run C S Y) → ℕ
 count_of runs = min (length runs) 18446744073709551615
 
--- Why a worker ended that served these clients. Only the last session ended by a stray or in want of memory. Where it ended
--- since no client comes any more, no call of its door had failed.
+-- Why a worker ended that served these clients. Only the last session ended by a stray or in want of memory. A call of its door had
+-- failed only where it ended by that.
 abbrev pub EndsBy : {C S Y L : Type 0} → WorkerTells S Y → (before after : DoorSide C) → (s n : WorkerSide S Y) → List (Run C S Y) → WorkerEnd L → Type 0
 EndsBy of before after s n runs (worker.Closed sessions) =
     (sessions ≡ count_of runs) × HaveRested of s runs n × IsEmpty after.coming × (after.faults ≡ before.faults)
 EndsBy of before after s n runs worker.DoorFault = HaveRested of s runs n × Rose before.faults after.faults
-EndsBy {L = L} of before after s n runs worker.ShelfFault = EndsAtLast {L = L} of s n runs worker.ShelfFault
-EndsBy {L = L} of before after s n runs worker.LogFault = EndsAtLast {L = L} of s n runs worker.LogFault
-EndsBy {L = L} of before after s n runs (worker.Stray stray) = EndsAtLast {L = L} of s n runs (worker.Stray stray)
+EndsBy {L = L} of before after s n runs worker.ShelfFault = EndsAtLast {L = L} of s n runs worker.ShelfFault × (after.faults ≡ before.faults)
+EndsBy {L = L} of before after s n runs worker.LogFault = EndsAtLast {L = L} of s n runs worker.LogFault × (after.faults ≡ before.faults)
+EndsBy {L = L} of before after s n runs (worker.Stray stray) =
+    EndsAtLast {L = L} of s n runs (worker.Stray stray) × (after.faults ≡ before.faults)
 EndsBy {L = L} of before after s n runs worker.NoMemory =
-    (HaveRested of s runs n × (after.faults ≡ before.faults)) ⊎ EndsAtLast {L = L} of s n runs worker.NoMemory
+    (HaveRested of s runs n ⊎ EndsAtLast {L = L} of s n runs worker.NoMemory) × (after.faults ≡ before.faults)
 
 -- All that a worker did: the clients that came from its door, in order, were served, each by one session, and were left
 -- in that order.
