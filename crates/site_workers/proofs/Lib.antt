@@ -10,10 +10,8 @@ pub mod MemberListLemmas
 pub mod OneConfig
 pub mod OneRefusal
 pub mod RowLemmas
-pub mod SameLemmas
 pub mod SettingLemmas
 pub mod ShareLemmas
 pub mod TableLemmas
-pub mod ToldLemmas
 pub mod WayLemmas
 pub mod WorkerLemmas

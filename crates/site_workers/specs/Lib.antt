@@ -12,5 +12,4 @@ pub mod Settings
 pub mod Site
 pub mod Table
 pub mod Tables
-pub mod Told
 pub mod Ways

@@ -209,8 +209,11 @@ pub record IsConfig (text : List ℕ) (c : Config) : Type 0 where
   pub workers : Builds properties (maintain_of properties) (firsts (site_list properties)) no_workers (draft_of c)
   pub ignored : c.ignored ≡ ignored_of properties
 
--- the first refusal of a text
+-- the first refusal of the workers that these lines give, each of which passes by itself
+abbrev pub RefusesWorkers : List Property → LineRefusal → Type 0
+RefusesWorkers ps r = StopsAtListing ps (maintain_of ps) (firsts (site_list ps)) no_workers r
+
+-- the first refusal of a text: of a line by itself, or else of the workers
 abbrev pub IsRefusedText : List ℕ → LineRefusal → Type 0
 IsRefusedText text r =
-    (read_text true text ≡ Err r)
-    ⊎ ((ps : List Property) × (read_text true text ≡ Ok ps) × StopsAtListing ps (maintain_of ps) (firsts (site_list ps)) no_workers r)
+    (read_text true text ≡ Err r) ⊎ ((ps : List Property) × (read_text true text ≡ Ok ps) × RefusesWorkers ps r)

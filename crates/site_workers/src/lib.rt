@@ -2,8 +2,8 @@
 //!
 //! Source: Apache Tomcat Connectors reference, "workers.properties" and "LoadBalancer HowTo".
 //! Own rules: the ranges, the numbers of the refusals and their order, how lists are spelled (docs/FORMATS.md).
-//! Contract: `read_workers`, clauses `ok` and `refused`. Read first: specs/Site.antt, then specs/Given.antt,
-//! specs/Settings.antt, site_config's specs/Properties.antt.
+//! Contract: `read_workers`, clauses `ok` and `refused`; `configure`, the same of lines that were read. Read first: specs/Site.antt,
+//! then specs/Given.antt, specs/Settings.antt, site_config's specs/Properties.antt.
 //! Errors: `PropsError`.
 #![tactic(auto)]
 
@@ -11,6 +11,7 @@ mod books;
 mod draft;
 mod firsts;
 mod given;
+mod ignored;
 pub mod laws;
 mod limits;
 mod listing;
@@ -23,7 +24,6 @@ mod row;
 mod settings;
 mod site;
 mod table;
-mod told;
 mod whole;
 mod workers;
 
@@ -31,4 +31,4 @@ pub use site_config::{
     Config, EndList, Endpoint, IgnoredList, Lb, LbList, Named, NamedList, Property, PropertyList,
     PropsError, Status, StatusList, read_properties,
 };
-pub use workers::read_workers;
+pub use workers::{configure, read_workers};

@@ -1,20 +1,22 @@
 //! The second pass: the workers of `worker.list`, in order.
-ghost use Rattle.std.specs.Prelude.{◌≡◌, ◌≤◌, ◌<◌, ◌^◌, ℕ, length, IfOk, IfErr, OnOk};
+ghost use Rattle.std.specs.Prelude.{◌≡◌, ◌≤◌, ◌<◌, ◌^◌, ℕ, List, Ok, true, length, IfOk, IfErr, OnOk};
 ghost use Rattle.jk_io.specs.declared.whole_input.TheConstants.{MAX_INPUT_BYTES};
 ghost use Rattle.site_config.specs.Directives.{slot_of};
 ghost use Rattle.site_config.specs.Entries.{as_properties};
+ghost use Rattle.site_config.specs.Properties.{read_text};
 ghost use Rattle.site_workers.specs.Books.{Pass, RefusesMembers};
 ghost use Rattle.site_workers.specs.Listings.{as_listing, as_listings};
 ghost use Rattle.site_workers.specs.Lists.{firsts, site_list};
 ghost use Rattle.site_config.specs.Refusals.{IsRefusal};
 ghost use Rattle.site_workers.specs.Rows.{HasForce, property_at};
 ghost use Rattle.site_workers.specs.Settings.{kind_in};
-ghost use Rattle.site_workers.specs.Site.{AddsListing, AddsKind, Builds, IsConfig, IsRefusedText, IsTraced, RefusesListing, RefusesKind, StopsAtListing, draft_of, maintain_of, no_workers, with_lb};
+ghost use Rattle.site_workers.specs.Site.{AddsListing, AddsKind, Builds, IsConfig, IsRefusedText, IsTraced, RefusesListing, RefusesKind, RefusesWorkers, StopsAtListing, draft_of, maintain_of, no_workers, with_lb};
 ghost use Rattle.site_workers.specs.Tables.{AreAtRest, lines_in};
 
 use crate::books::{balanced, direct};
 use crate::draft::Draft;
 use crate::given::Given;
+use crate::ignored::ignored_of;
 use crate::listing::{Listing, listed};
 use crate::member_lists::{member_lists, members_in};
 use crate::members::{check_members_known, check_references, check_types};
@@ -22,13 +24,12 @@ use crate::row::Row;
 use crate::settings::{is_closed, kind, truth_or};
 use crate::site::{check_known, force_of};
 use crate::table::{names_of, rows_of};
-use crate::told::{Told, told_lines};
 use crate::whole::maintain_of;
 use jk_io::{Bytes, NoMemory};
 use lb_model::MAX_BALANCERS;
 use site_config::{
     Config, Directive, IgnoredList, Lb, PropertyLine, PropsError, PropsReason, Status, WorkerKind,
-    refused,
+    read_entries, refused,
 };
 use std::alloc::Global;
 
@@ -235,6 +236,17 @@ fn workers_of(
     config_of(alloc, &given, ignored)
 }
 
+/// The configuration of a workers.properties with these lines, each of which passes by itself, or the first refusal of its
+/// workers: the second pass.
+pub fn configure(alloc: Global, entries: &[PropertyLine<'_>]) -> Result<Config, PropsError>
+    requires few { length entries.now < 2 ^ 32 }
+    ensures ok { (text : List ℕ) → read_text true text ≡ Ok (as_properties entries.now) → IfOk result (IsConfig text) }
+    ensures refused { IfErr result (IsRefusal (RefusesWorkers (as_properties entries.now))) }
+{
+    let ignored = ignored_of(alloc, entries)?;
+    workers_of(alloc, entries, ignored)
+}
+
 /// The configuration that a workers.properties gives, or its first refusal: the first pass goes over the lines, the
 /// second over the workers of `worker.list`.
 pub fn read_workers(alloc: Global, text: &[u8]) -> Result<Config, PropsError>
@@ -242,6 +254,6 @@ pub fn read_workers(alloc: Global, text: &[u8]) -> Result<Config, PropsError>
     ensures ok { IfOk result (IsConfig text.now) }
     ensures refused { IfErr result (IsRefusal (IsRefusedText text.now)) }
 {
-    let Told { entries, ignored } = told_lines(alloc, text)?;
-    workers_of(alloc, entries.as_slice(), ignored)
+    let entries = read_entries(alloc, true, text)?;
+    configure(alloc, entries.as_slice())
 }
