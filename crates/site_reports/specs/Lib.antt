@@ -1,10 +1,12 @@
 pub mod ConfigText
 pub mod Found
+pub mod Judgements
 pub mod LimitLines
 pub mod Matches
 pub mod MemberLines
 pub mod PathLines
 pub mod Readings
+pub mod RefusedParts
 pub mod Reports
 pub mod Sites
 pub mod Words

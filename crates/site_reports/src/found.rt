@@ -4,8 +4,10 @@ ghost use Rattle.jk_io.specs.declared.whole_input.TheConstants.{MAX_INPUT_BYTES}
 ghost use Rattle.site_config.specs.Refusals.{LineRefusal};
 ghost use Rattle.site_mounts.specs.Lines.{read_text};
 ghost use Rattle.site_mounts.specs.Sites.{stands_in};
+ghost use Rattle.site_reports.specs.RefusedParts.{IsRefusedPart};
 ghost use Rattle.site_workers.specs.Site.{IsConfig, IsRefusedText};
 
+use crate::refused_part::RefusedPart;
 use jk_io::Bytes;
 use site_config::Config;
 use site_mounts::UriMap;
@@ -30,14 +32,16 @@ pub struct AcceptedSite {
     pub ghost stands: { stands_in workers.config rules ≡ true },
 }
 
-/// A workers.properties that is refused, with its first refusal.
+/// A workers.properties that is refused, with its first refusal, and what of it that is.
 #[derive(Drop)]
 pub struct RefusedWorkers {
     pub text: Bytes,
     pub line: u32,
     pub code: u8,
+    pub part: RefusedPart,
     pub ghost short: { length text ≤ MAX_INPUT_BYTES },
     pub ghost refused: { ∥ IsRefusedText text (record { line = line; code = code }) ∥₁ },
+    pub ghost told_apart: { IsRefusedPart part text (record { line = line; code = code }) },
 }
 
 /// A uriworkermap.properties that is refused, with its first refusal, and the workers.properties, which is accepted.

@@ -1,12 +1,17 @@
 //! The judgement of a site's two files, for all that is printed or told of them.
-ghost use Rattle.std.specs.Prelude.{◌≡◌, ◌≤◌, IfOk, length};
+ghost use Rattle.std.specs.Prelude.{◌≡◌, ◌≤◌, ◌<◌, ◌^◌, ℕ, List, Ok, true, IfOk, length};
 ghost use Rattle.jk_io.specs.declared.whole_input.TheConstants.{MAX_INPUT_BYTES};
+ghost use Rattle.site_config.specs.Entries.{as_properties};
+ghost use Rattle.site_config.specs.Properties.{read_text};
 ghost use Rattle.site_reports.specs.Found.{FindsMap, FindsSite, FindsWorkers, is_refused};
+ghost use Rattle.site_reports.specs.Judgements.{IsJudgement};
 
 use crate::found::{AcceptedSite, AcceptedWorkers, RefusedMap, RefusedWorkers, SiteFound};
+use crate::refused_part::RefusedPart;
 use jk_io::{Bytes, NoMemory};
+use site_config::{Config, PropertyLine, PropsError, read_entries};
 use site_mounts::{MapError, read_map};
-use site_workers::{PropsError, read_workers};
+use site_workers::configure;
 use std::alloc::Global;
 
 impl SiteFound {
@@ -21,18 +26,65 @@ impl SiteFound {
     }
 }
 
+/// A workers.properties as it was judged.
+#[derive(Drop)]
+enum Judgement {
+    Accepted(Config),
+    Refused {
+        line: u32,
+        code: u8,
+        part: RefusedPart,
+    },
+}
+
+/// Judges the workers of lines, each of which passes by itself.
+fn judge_lines(alloc: Global, lines: &[PropertyLine<'_>]) -> Result<Judgement, NoMemory>
+    requires { length lines.now < 2 ^ 32 }
+    ensures { (text : List ℕ) → read_text true text ≡ Ok (as_properties lines.now) → IfOk result (IsJudgement text) }
+{
+    match configure(alloc, lines) {
+        Ok(config) => Ok(Judgement::Accepted(config)),
+        Err(PropsError::Refused { line, code }) => Ok(Judgement::Refused {
+            line,
+            code,
+            part: RefusedPart::Workers,
+        }),
+        Err(PropsError::NoMemory) => Err(NoMemory),
+    }
+}
+
+/// Judges a text: each line by itself, and then the workers.
+fn judge_text(alloc: Global, text: &[u8]) -> Result<Judgement, NoMemory>
+    requires { length text.now ≤ MAX_INPUT_BYTES }
+    ensures { IfOk result (IsJudgement text.now) }
+{
+    match read_entries(alloc, true, text) {
+        Ok(lines) => judge_lines(alloc, lines.as_slice()),
+        Err(PropsError::Refused { line, code }) => Ok(Judgement::Refused {
+            line,
+            code,
+            part: RefusedPart::Line,
+        }),
+        Err(PropsError::NoMemory) => Err(NoMemory),
+    }
+}
+
 /// Judges a workers.properties.
 pub fn judge_workers(alloc: Global, text: Bytes) -> Result<SiteFound, NoMemory>
     requires short { length text ≤ MAX_INPUT_BYTES }
     ensures { IfOk result (FindsWorkers text) }
 {
-    match read_workers(alloc, text.as_slice()) {
-        Ok(config) => Ok(SiteFound::Workers(AcceptedWorkers { text, config })),
-        Err(PropsError::Refused { line, code }) => {
-            let refused = RefusedWorkers { text, line, code };
+    match judge_text(alloc, text.as_slice())? {
+        Judgement::Accepted(config) => Ok(SiteFound::Workers(AcceptedWorkers { text, config })),
+        Judgement::Refused { line, code, part } => {
+            let refused = RefusedWorkers {
+                text,
+                line,
+                code,
+                part,
+            };
             Ok(SiteFound::WorkersRefused(refused))
         }
-        Err(PropsError::NoMemory) => Err(NoMemory),
     }
 }
 

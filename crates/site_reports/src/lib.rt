@@ -17,6 +17,7 @@ mod match_text;
 mod member_line;
 mod path_lines;
 mod reading;
+mod refused_part;
 mod report;
 mod words;
 
@@ -26,4 +27,5 @@ pub use found::{AcceptedSite, AcceptedWorkers, RefusedMap, RefusedWorkers, SiteF
 pub use judging::{judge_site, judge_workers};
 pub use match_text::put_matches;
 pub use reading::{Judged, RefusedSite, read_site};
+pub use refused_part::RefusedPart;
 pub use report::{Report, refusal_text, report_config, report_matches, report_site};
