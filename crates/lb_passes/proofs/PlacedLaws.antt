@@ -83,6 +83,7 @@ pub new_waiting : (n : ℕ) (d : PassDeskState) (passes : List Pass) (p : Pass) 
 new_waiting n d passes p is one numbers = record {
   caller = ap (λ (s : PassDeskState). s.desk.caller) is ∙ ap Some (sym (numbers 0 p (ap (λ (xs : List Pass). get_elem? xs 0) one)));
   none_held = ap (λ (s : PassDeskState). s.desk.held) is;
+  unused = ap (λ (s : PassDeskState). s.desk.receipts) is;
   sized = ap (λ (s : PassDeskState). s.desk.sizes) is ∙ ap sizes_in one;
 }
 

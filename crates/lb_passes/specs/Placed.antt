@@ -53,8 +53,9 @@ pub record IsPlaced (table : TableId) (o : Origin) (given : ℕ) (d : PassDeskSt
   pub caller : (p : Pass) → get_elem? d.passes 0 ≡ some p → d.desk.caller ≡ Some p.number
   pub sized : length d.desk.sizes ≡ 1
 
--- A desk of this pass's caller that holds no ticket.
+-- A desk of this pass's caller that holds no ticket, and has no receipt.
 pub record IsWaitingPass (p : Pass) (d : DeskState) : Type 0 where
   pub caller : d.caller ≡ Some p.number
   pub none_held : d.held ≡ []
+  pub unused : d.receipts ≡ []
   pub sized : d.sizes ≡ members (view_of p).origin.opening ∷ []
