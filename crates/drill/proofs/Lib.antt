@@ -15,4 +15,5 @@ mod PassLaws
 mod RequestLaws
 mod SiteLaws
 mod SlotLaws
+mod StartLaws
 mod WireLaws

@@ -1,5 +1,5 @@
 -- The slots of a drill's passes, and the Book that the passes leave.
-use Rattle.std.proofs.Common.{◌≡◌, ℕ, zero, suc, ◌+◌, ◌<◌, ◌≤◌, List, [], ◌∷◌, ◌++◌, length, map, reverse, slice_index_or, take, refl, sym, ap, ◌∙◌, subst, append_assoc, arith}
+use Rattle.std.proofs.Common.{◌≡◌, ℕ, suc, ◌+◌, ◌<◌, ◌≤◌, List, [], ◌∷◌, ◌++◌, length, map, reverse, slice_index_or, take, refl, sym, ap, ◌∙◌, subst, append_assoc, arith}
 use Rattle.std.proofs.lemmas.List.{append-nil, length-map, length-reverse, map-append}
 use Rattle.std.proofs.Math.Seq.{take-append_seam}
 use Rattle.atomic_table.specs.Seated.{TableId}
@@ -17,6 +17,7 @@ use Rattle.lb_passes.specs.Turns.{IsBookOf}
 use Rattle.lb_passes.specs.declared.pass_view.Origin.{Origin}
 use Rattle.lb_passes.proofs.BookLaws.{book_entries}
 use Rattle.drill.specs.Ends.{IsOfDrill, IsStarted}
+use Rattle.drill.specs.Sites.{IsDrillBook}
 
 -- Where each keeps its number, all do.
 pub numbers_kept : {A : Type 0} (f : A → ℕ) (xs ys : List A) → length ys ≡ length xs
@@ -113,14 +114,21 @@ closed_drill table from start b given passes started is are closed =
     let entries : closed.log ≡ b.entries = book_entries o closed.log b stands refl in
     let many : length closed.log ≡ length b.entries = ap (λ (es : List Entry). length es) entries in
     let next : b.opening.next ≡ start.opening.next = ap (λ (x : Opening). x.next) opening in
+    let counted : b.added ≡ start.added + length closed.log = stands.counted in
+    let none : start.added ≡ 0 = started.added in
     record {
-      rules = stands.whole.rules;
-      two = ap members opening ∙ started.two;
-      numbered =
-          let first : start.opening.next + length (reverse start.entries) ≡ 0 = started.first in
-          let counted : b.added ≡ start.added + length closed.log = stands.counted in
-          let none : start.added ≡ 0 = started.added in
-          let sum : b.opening.next + length (reverse b.entries) ≡ b.added = omega (arith, next, first, counted, none, many, length-reverse b.entries) in
-          sum;
-      sound = stands.sound;
+      journal = record {
+        rules = stands.whole.rules;
+        two = ap members opening ∙ started.two;
+        numbered =
+            let first : start.opening.next + length (reverse start.entries) ≡ 0 = started.first in
+            let sum : b.opening.next + length (reverse b.entries) ≡ b.added = omega (arith, next, first, counted, none, many, length-reverse b.entries) in
+            sum;
+        sound = stands.sound;
+      };
+      begins = record {
+        balancer = subst IsDrillBook (sym (ap (λ (x : Opening). x.config) opening)) started.balancer;
+        moment = ap (λ (x : Opening). x.at) opening ∙ started.moment;
+      };
+      kept = omega (arith, counted, none, many);
     }

@@ -1,5 +1,7 @@
 //! The threads of a drill that take turns at one Book, each with a pass.
-ghost use Rattle.std.specs.Prelude.{◌≡◌, ◌<◌, ◌≤◌, ℕ, [], ◌∷◌, length, map, vec_capacity, vec_len, IfOk, Some, slice_index_or};
+ghost use Rattle.std.specs.Prelude.{◌≡◌, ◌<◌, ◌≤◌, ℕ, List, [], ◌∷◌, length, map, vec_capacity, vec_len, IfOk, Some, slice_index_or};
+ghost use Rattle.std.specs.List.{All};
+ghost use Rattle.lb_book.specs.declared.receipt.Receipt.{Receipt};
 ghost use Rattle.lb_model.specs.Journal.{members};
 ghost use Rattle.lb_passes.specs.PassDesks.{table_in};
 ghost use Rattle.lb_passes.specs.declared.pass_book.PassBook.{PassBook};
@@ -48,7 +50,8 @@ fn slot_of<'b, 'r, P: PassPlace, R>(
     requires pass { IsBack P.table P.origin P.given pass }
     requires number { pass.number ≡ number }
     requires two { members P.origin.opening ≡ 2 }
-    ensures { IfOk result (λ s. s.number ≡ number) }
+    ensures number { IfOk result (λ s. s.number ≡ number) }
+    ensures fresh { IfOk result (λ s. s.desk.desk.desk.receipts ≡ []) }
 {
     Ok(PassSlot {
         desk: PlacedDesk::new(alloc, rt, books, pass)?,
@@ -67,6 +70,7 @@ fn slots_for<'b, 'r, P: PassPlace, R>(
     requires { AreDrillPasses P.table P.origin P.given books.now passes }
     ensures numbers { IfOk result (λ slots. AreFrom 0 (map (λ s. s.number) slots.items)) }
     ensures count { IfOk result (λ slots. vec_len slots ≡ P.given) }
+    ensures fresh { IfOk result (λ slots. All (λ s. s.desk.desk.desk.receipts ≡ []) slots.items) }
 {
     let passes = passes.into_vec();
     let mut slots = Vec::with_capacity(alloc, passes.len())?;
@@ -85,7 +89,7 @@ fn serve_slot<P: PassPlace, R: Wait>(
     slot: &mut PassSlot<'_, '_, P, R>,
 )
     ensures number { slot.new.number ≡ slot.old.number }
-    ensures made { IsMadeBy site.now plan slot.old.number slot.new.made }
+    ensures made { IsMadeBy site.now plan slot.old.number slot.old.desk.desk.desk.receipts (slot.new.desk.desk.desk.receipts, slot.new.made) }
 {
     let served = serve_thread(alloc, site, plan, slot.number, &mut slot.desk);
     slot.made = served.ok();
@@ -102,7 +106,8 @@ fn serve_slots<'b, 'r, P: PassPlace + Send + Sync, R: Threads + Wait + Sync>(
     requires few { length slots.old ≤ MAX_THREADS }
     ensures numbers { (i : ℕ) (d : _) → i < length slots.old → (slice_index_or slots.new i d).number ≡ (slice_index_or slots.old i d).number }
     ensures made { (i : ℕ) (d : _) → i < length slots.old
-        → IsMadeBy site.now plan (slice_index_or slots.old i d).number (slice_index_or slots.new i d).made }
+        → IsMadeBy site.now plan (slice_index_or slots.old i d).number (slice_index_or slots.old i d).desk.desk.desk.receipts
+        ((slice_index_or slots.new i d).desk.desk.desk.receipts, (slice_index_or slots.new i d).made) }
     ensures len { length slots.new ≡ length slots.old }
 {
     let count = slots.len().max(1);
@@ -111,7 +116,8 @@ fn serve_slots<'b, 'r, P: PassPlace + Send + Sync, R: Threads + Wait + Sync>(
         slots,
         count,
         &|_place: usize, slot: &mut PassSlot<P, R>|
-            ensures { (slot.new.number ≡ slot.old.number) × IsMadeBy site.entry.now plan slot.old.number slot.new.made }
+            ensures { (slot.new.number ≡ slot.old.number) × IsMadeBy site.entry.now plan slot.old.number
+                slot.old.desk.desk.desk.receipts (slot.new.desk.desk.desk.receipts, slot.new.made) }
         {
             serve_slot(alloc, site, plan, slot);
         },
@@ -152,7 +158,8 @@ fn serve_each<'b, 'r, P: PassPlace + Send + Sync, R: Threads + Wait + Sync>(
 )
     requires few { vec_len slots.old ≤ MAX_THREADS }
     requires numbers { AreFrom 0 (map (λ s. s.number) slots.old.items) }
-    ensures made { AreMade site.now plan (map (λ s. s.made) slots.new.items) }
+    requires fresh { All (λ s. s.desk.desk.desk.receipts ≡ []) slots.old.items }
+    ensures made { AreMade site.now plan (map (λ s. (s.desk.desk.desk.receipts, s.made)) slots.new.items) }
     ensures numbers { map (λ s. s.number) slots.new.items ≡ map (λ s. s.number) slots.old.items }
     ensures len { vec_len slots.new ≡ vec_len slots.old }
 {
@@ -174,7 +181,7 @@ pub(crate) fn serve_in_turns<'b, P: PassPlace + Send + Sync, R: Threads + Wait +
     ensures back { IfOk result (λ left. AreBack P.table P.origin P.given left.passes) }
 
     // The bytes of the bodies are those of the rows of the threads' sessions.
-    ensures counted { IfOk result (λ left. CountsDrill plan.seed plan.threads plan.requests left.bodies) }
+    ensures counted { IfOk result (λ left. (told : List (List Receipt)) × CountsDrill plan.seed plan.threads plan.requests told left.bodies) }
 {
     let mut slots = slots_for::<P, R>(alloc, rt, books, passes)?;
     let mut passes = Vec::with_capacity(alloc, slots.len())?;

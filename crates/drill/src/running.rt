@@ -1,16 +1,18 @@
 //! `run_drill`: the Site, its threads, the closing, and what is printed.
-ghost use Rattle.std.specs.Prelude.{◌≡◌, ℕ, ◌<◌, ◌≤◌, [], ◌∷◌, false, true, codes, length, sum_by, IfOk, IfErr, IfSome, IfNone};
+ghost use Rattle.std.specs.Prelude.{◌≡◌, ℕ, ◌<◌, ◌≤◌, List, [], ◌∷◌, false, true, codes, length, sum_by, IfOk, IfErr, IfSome, IfNone};
 ghost use Rattle.std.specs.List.{All, flat_map};
 ghost use Rattle.std.specs.List.Sorted.{IsPermutation};
 ghost use Rattle.lb_book.specs.Journal.{Journal};
 ghost use Rattle.lb_book.specs.ToldBooks.{sizes_of};
-ghost use Rattle.lb_shared.specs.Histories.{starts_of};
+ghost use Rattle.lb_book.specs.declared.receipt.Receipt.{Receipt};
+ghost use Rattle.lb_model.specs.declared.journal.Entry.{Entry};
+ghost use Rattle.lb_shared.specs.Histories.{IsSiteHistory, starts_of};
 ghost use Rattle.lb_shared.specs.Sites.{AreSited, IsBlankOf, added_in, nexts_of};
 ghost use Rattle.lb_closing.specs.CloseErrors.{IsCloseError};
 ghost use Rattle.drill.specs.Counts.{CountsDrill};
 ghost use Rattle.drill.specs.Drills.{IsDrilled};
 ghost use Rattle.lb_closing.specs.Closings.{AreUncut, kept_from, noted};
-ghost use Rattle.drill.specs.Ends.{IsDrillError, IsDiscordFound, IsMeasured, IsOfDrill, IsStarted, receipts_of};
+ghost use Rattle.drill.specs.Ends.{AreReceiptsOf, BeginsDrill, IsCompared, IsDiscordFound, IsDrillError, IsDrillJournal, IsMeasured, IsOfDrill, IsStarted, receipts_of};
 ghost use Rattle.drill.specs.Requests.{bodies_of};
 ghost use Rattle.journal_text.specs.SegmentText.{segment_text};
 ghost use Rattle.drill.specs.Summaries.{IsJournalText, summary_text};
@@ -83,8 +85,10 @@ fn drill_in<L: SiteName + Send + Sync, R: Threads + Wait + Sync>(
     requires starts { starts_of books ≡ L.starts }
     requires uncut { 0 ≡ L.cut_at }
     ensures one { IfOk result (λ c. length c.books ≡ 1) }
-    ensures books { IfOk result (λ c. All IsOfDrill c.books) }
-    ensures counted { IfOk result (λ c. CountsDrill plan.seed plan.threads plan.requests c.bodies) }
+    ensures books { IfOk result (λ c. All IsDrillJournal c.books) }
+    ensures begins { IfOk result (λ c. AreUncut c.books → All BeginsDrill c.books) }
+    ensures once { IfOk result (λ c. (told : List (List Receipt)) × CountsDrill plan.seed plan.threads plan.requests told c.bodies
+        × (AreUncut c.books → AreReceiptsOf told c.books)) }
     ensures cause { IfErr result (IsCloseError IsDiscordFound) }
 {
     let SiteBlank { entries, cuts } = blank;
@@ -104,6 +108,7 @@ fn close_books<'r, L: SiteName, R: Wait>(
     requires sizes { L.sizes ≡ 2 ∷ [] }
     requires firsts { L.firsts ≡ 0 ∷ [] }
     ensures sited { IfOk result (λ c. AreSited L.sizes L.firsts c.books) }
+    ensures history { IfOk result (λ c. (log : List (ℕ × (ℕ × Entry))) × IsSiteHistory L.starts log c.books) }
     ensures once { IfOk result (λ c. AreUncut c.books
         → IsPermutation (noted (flat_map (λ l. l.receipts) left.leaving)) (kept_from 0 c.books)) }
     ensures bodies { IfOk result (λ c. c.bodies ≡ left.bodies) }
@@ -174,14 +179,14 @@ fn tell(
     wanted: Wanted,
     measured: Measured,
 ) -> Result<Drilled, DrillError>
-    requires { IsMeasured plan.seed plan.threads plan.requests (receipts_of wanted.passes measured.book.entries) measured }
+    requires { IsMeasured plan.seed plan.threads plan.requests wanted.passes measured }
     ensures summary { wanted.text ≡ false
         → IfOk result (λ d. d.text ≡ summary_text plan.seed plan.threads plan.requests wanted.passes d.book.entries) }
     ensures journal { wanted.text ≡ true → IfOk result (λ d. IsJournalText d.book d.text) }
     ensures drilled { IfOk result (λ d. IsDrilled plan.threads plan.requests d.book.entries) }
     ensures book { IfOk result (λ d. IsOfDrill d.book) }
     ensures bodies { IfOk result (λ d. d.bodies ≡ bodies_of plan.seed plan.requests) }
-    ensures counted { IfOk result (λ d. CountsDrill plan.seed plan.threads plan.requests d.bodies) }
+    ensures compared { IfOk result (λ d. IsCompared plan.seed plan.threads plan.requests wanted.passes d.bodies d.book) }
     ensures receipts { IfOk result (λ d. d.receipts ≡ receipts_of wanted.passes d.book.entries) }
     ensures cause { IfErr result (IsDrillError plan.seed plan.threads plan.requests) }
 {
@@ -211,7 +216,7 @@ fn drilled_book<R: Threads + Wait + Sync>(
     site: &DrillSite,
     plan: Plan,
 ) -> Result<Measured, DrillError>
-    ensures measured { IfOk result (λ m. IsMeasured plan.seed plan.threads plan.requests (length m.book.entries) m) }
+    ensures measured { IfOk result (IsMeasured plan.seed plan.threads plan.requests false) }
     ensures cause { IfErr result (IsDrillError plan.seed plan.threads plan.requests) }
 {
     let books = one_book(alloc, start_book(alloc)?)?;
@@ -226,8 +231,10 @@ fn drilled_book<R: Threads + Wait + Sync>(
 // The Book of a closed Site, where it keeps an entry for each receipt.
 fn whole(compared: Compared) -> Result<Measured, DrillError>
     requires one { length compared.books ≡ 1 }
-    requires all { All IsOfDrill compared.books }
-    ensures book { IfOk result (λ m. IsOfDrill m.book) }
+    requires all { All IsDrillJournal compared.books }
+    ensures book { IfOk result (λ m. IsDrillJournal m.book) }
+    ensures only { IfOk result (λ m. compared.books ≡ m.book ∷ []) }
+    ensures kept { IfOk result (λ m. length m.book.entries ≡ m.book.added) }
     ensures bodies { IfOk result (λ m. m.bodies ≡ compared.bodies) }
     ensures receipts { IfOk result (λ m. m.receipts ≡ length m.book.entries) }
     ensures cause { (seed threads requests : ℕ) → IfErr result (IsDrillError seed threads requests) }
@@ -250,8 +257,9 @@ fn whole(compared: Compared) -> Result<Measured, DrillError>
 
 fn only_book(books: BookList) -> Book
     requires one { length books ≡ 1 }
-    requires all { All IsOfDrill books }
-    ensures book { IsOfDrill result }
+    requires all { All IsDrillJournal books }
+    ensures book { IsDrillJournal result }
+    ensures only { books ≡ result ∷ [] }
     ensures added { result.added ≡ added_in books }
 {
     let mut books = books;
@@ -268,7 +276,7 @@ fn passed_book<R: Threads + Wait + Sync>(
     site: &DrillSite,
     plan: Plan,
 ) -> Result<Measured, NoMemory>
-    ensures { IfOk result (IsMeasured plan.seed plan.threads plan.requests 0) }
+    ensures { IfOk result (IsMeasured plan.seed plan.threads plan.requests true) }
 {
     let start = start_book(alloc)?;
     let (book, passes) = PassBook::new(alloc, start, plan.threads)?;
@@ -291,7 +299,7 @@ fn book_of<R: Threads + Wait + Sync>(
     plan: Plan,
     passes: bool,
 ) -> Result<Measured, DrillError>
-    ensures measured { IfOk result (λ m. IsMeasured plan.seed plan.threads plan.requests (receipts_of passes m.book.entries) m) }
+    ensures measured { IfOk result (IsMeasured plan.seed plan.threads plan.requests passes) }
     ensures cause { IfErr result (IsDrillError plan.seed plan.threads plan.requests) }
 {
     let site = drill_site(alloc)?;
@@ -321,14 +329,14 @@ pub fn run_drill<R: Threads + Wait + Sync>(
     ensures summary { text ≡ false → IfOk result (λ d. d.text ≡ summary_text seed threads requests passes d.book.entries) }
     ensures journal { text ≡ true → IfOk result (λ d. IsJournalText d.book d.text) }
 
-    // In that journal the entries of each thread are those of its requests, each answered whole.
+    // In that journal, which began with the drill's balancer, the entries of each thread are those of its requests, each answered whole.
     ensures drilled { IfOk result (λ d. IsDrilled threads requests d.book.entries) }
     ensures book { IfOk result (λ d. IsOfDrill d.book) }
 
-    // The bodies in the rows of all sessions had the bytes that the requests asked for, and each entry of the journal has its
-    // receipt.
+    // The bodies in the rows of all sessions had the bytes that the requests asked for. Over a lock the receipts of the threads'
+    // desks are the journal's entries, each once; over passes the Book was closed with a pass of each thread.
     ensures bodies { IfOk result (λ d. d.bodies ≡ bodies_of seed requests) }
-    ensures counted { IfOk result (λ d. CountsDrill seed threads requests d.bodies) }
+    ensures compared { IfOk result (λ d. IsCompared seed threads requests passes d.bodies d.book) }
     ensures receipts { IfOk result (λ d. d.receipts ≡ receipts_of passes d.book.entries) }
 
     // Differs only with a discord of the closing, Lost only with a Book in whose journal they aren't, Bodies only where the

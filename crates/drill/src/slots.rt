@@ -49,6 +49,8 @@ fn put_slot<'s, 'r, L: SiteName, R>(
     requires part { part.share.parts ≡ 1 }
     requires sizes { L.sizes ≡ 2 ∷ [] }
     requires room { vec_len slots.old < vec_capacity slots.old }
+    requires fresh { All (λ s. s.desk.desk.receipts ≡ []) slots.old.items }
+    ensures fresh { All (λ s. s.desk.desk.receipts ≡ []) slots.new.items }
     ensures len { vec_len slots.new ≡ vec_len slots.old + 1 }
     ensures capacity { vec_capacity slots.new ≡ vec_capacity slots.old }
 {
@@ -73,6 +75,7 @@ fn fill_slots<'s, 'r, L: SiteName, R>(
     requires parts { unused.old.share.parts ≡ threads }
     requires sizes { L.sizes ≡ 2 ∷ [] }
     ensures count { vec_len slots.new ≡ threads }
+    ensures fresh { All (λ s. s.desk.desk.receipts ≡ []) slots.new.items }
 {
     'slots: for _ in 0..threads {
         let share = unused.share.split_off(1);
@@ -90,6 +93,7 @@ fn slots_for<'s, 'r, L: SiteName, R>(
     requires parts { unused.share.parts ≡ threads }
     requires sizes { L.sizes ≡ 2 ∷ [] }
     ensures count { IfOk result (λ slots. vec_len slots ≡ threads) }
+    ensures fresh { IfOk result (λ slots. All (λ s. s.desk.desk.receipts ≡ []) slots.items) }
 {
     let mut unused = unused;
     let mut slots = Vec::with_capacity(alloc, threads as usize)?;
@@ -106,7 +110,7 @@ fn serve_slot<L: SiteName, R: Wait>(
     slot: &mut Slot<'_, '_, L, R>,
 )
     requires few { number < MAX_THREADS }
-    ensures made { IsMadeBy site.now plan number slot.new.made }
+    ensures made { IsMadeBy site.now plan number slot.old.desk.desk.receipts (slot.new.desk.desk.receipts, slot.new.made) }
 {
     let served = serve_thread(alloc, site, plan, number as u32, &mut slot.desk);
     slot.made = served.ok();
@@ -121,7 +125,8 @@ fn serve_slots<'s, 'r, L: SiteName + Send + Sync, R: Threads + Wait + Sync>(
     slots: &mut [Slot<'s, 'r, L, R>],
 )
     requires few { length slots.old ≤ MAX_THREADS }
-    ensures made { (i : ℕ) (d : _) → i < length slots.old → IsMadeBy site.now plan i (slice_index_or slots.new i d).made }
+    ensures made { (i : ℕ) (d : _) → i < length slots.old → IsMadeBy site.now plan i (slice_index_or slots.old i d).desk.desk.receipts
+        ((slice_index_or slots.new i d).desk.desk.receipts, (slice_index_or slots.new i d).made) }
     ensures len { length slots.new ≡ length slots.old }
 {
     let count = slots.len().max(1);
@@ -131,7 +136,7 @@ fn serve_slots<'s, 'r, L: SiteName + Send + Sync, R: Threads + Wait + Sync>(
         count,
         &|number: usize, slot: &mut Slot<L, R>|
             requires few { number < MAX_THREADS }
-            ensures { IsMadeBy site.entry.now plan number slot.new.made }
+            ensures { IsMadeBy site.entry.now plan number slot.old.desk.desk.receipts (slot.new.desk.desk.receipts, slot.new.made) }
         {
             serve_slot(alloc, site, plan, number, slot);
         },
@@ -148,6 +153,7 @@ fn empty_slots<'s, 'r, L: SiteName, R>(
     ensures parts { sum_by (λ l. l.share.parts) leaving.new.items ≡ vec_len slots.entry }
     ensures count { length leaving.new.items ≡ vec_len slots.entry }
     ensures none_forgot { All (λ l. l.forgotten ≡ 0) leaving.new.items }
+    ensures receipts { map (λ l. l.receipts) leaving.new.items ≡ map (λ s. s.desk.desk.receipts) slots.entry.items }
     ensures bodies { result ≡ all_together (map (λ s. s.made) slots.entry.items) }
 {
     let mut bodies = Some(0);
@@ -168,6 +174,7 @@ fn left_in<'s, 'r, L: SiteName, R>(
     requires room { vec_len slots ≤ vec_capacity leaving }
     ensures parts { IfOk result (λ left. sum_by (λ l. l.share.parts) left.leaving ≡ vec_len slots.entry) }
     ensures count { IfOk result (λ left. length left.leaving ≡ vec_len slots.entry) }
+    ensures receipts { IfOk result (λ left. map (λ l. l.receipts) left.leaving ≡ map (λ s. s.desk.desk.receipts) slots.entry.items) }
     ensures bodies { IfOk result (λ left. all_together (map (λ s. s.made) slots.entry.items) ≡ Some left.bodies) }
 {
     let mut leaving = leaving;
@@ -189,7 +196,8 @@ fn serve_each<'s, 'r, L: SiteName + Send + Sync, R: Threads + Wait + Sync>(
     slots: &mut Vec<Slot<'s, 'r, L, R>>,
 )
     requires few { vec_len slots.old ≤ MAX_THREADS }
-    ensures made { AreMade site.now plan (map (λ s. s.made) slots.new.items) }
+    requires fresh { All (λ s. s.desk.desk.receipts ≡ []) slots.old.items }
+    ensures made { AreMade site.now plan (map (λ s. (s.desk.desk.receipts, s.made)) slots.new.items) }
     ensures len { vec_len slots.new ≡ vec_len slots.old }
 {
     serve_slots(rt, alloc, site, plan, slots.as_mut_slice());
@@ -210,8 +218,9 @@ pub(crate) fn serve_all<'s, 'r, L: SiteName + Send + Sync, R: Threads + Wait + S
     ensures parts { IfOk result (λ left. sum_by (λ l. l.share.parts) left.leaving ≡ plan.threads) }
     ensures some { IfOk result (λ left. 0 < length left.leaving) }
 
-    // The bytes of the bodies are those of the rows of the threads' sessions.
-    ensures counted { IfOk result (λ left. CountsDrill plan.seed plan.threads plan.requests left.bodies) }
+    // The bytes of the bodies are those of the rows of the threads' sessions, and the receipts those of their desks.
+    ensures counted { IfOk result (λ left. CountsDrill plan.seed plan.threads plan.requests
+        (map (λ l. l.receipts) left.leaving) left.bodies) }
 {
     let mut slots = slots_for(alloc, shared, unused, plan.threads)?;
     let leaving = Vec::with_capacity(alloc, slots.len())?;

@@ -63,7 +63,8 @@ where
     B::Mark: Drop,
     B::Shown: Drop,
     requires ready { IsReady (visit_at post) (B.state desk.old) (R.beside reach.old) }
-    ensures rows { CountsRows (visit_at post.entry) client.old.incoming bodies.old.bytes bodies.new.bytes }
+    ensures rows { CountsRows (visit_at post.entry) client.old.incoming
+        (B.state desk.old).receipts (B.state desk.new).receipts bodies.old.bytes bodies.new.bytes }
     ensures kept { KeepsTickets post.entry.number (B.state desk.old) (B.state desk.new) }
     ensures ready { IsReady (visit_at post.entry) (B.state desk.new) (R.beside reach.new) }
 {
@@ -99,7 +100,8 @@ where
     B::Mark: Drop,
     B::Shown: Drop,
     requires ready { IsReady (visit_at post) (B.state desk.old) (R.beside reach.old) }
-    ensures rows { CountsRows (visit_at post.entry) text bodies.old.bytes bodies.new.bytes }
+    ensures rows { CountsRows (visit_at post.entry) text
+        (B.state desk.old).receipts (B.state desk.new).receipts bodies.old.bytes bodies.new.bytes }
     ensures kept { KeepsTickets post.entry.number (B.state desk.old) (B.state desk.new) }
     ensures ready { IsReady (visit_at post.entry) (B.state desk.new) (R.beside reach.new) }
 {
@@ -120,8 +122,8 @@ where
     B::Mark: Drop,
     B::Shown: Drop,
     requires ready { IsReady (visit_at post) (B.state desk.old) (R.beside reach.old) }
-    ensures counted { IfOk result (λ _. CountsSessions (visit_at post.entry)
-        requests.old.seed requests.old.left bodies.old.bytes bodies.new.bytes) }
+    ensures counted { IfOk result (λ _. CountsSessions (visit_at post.entry) requests.old.seed requests.old.left
+        (B.state desk.old).receipts (B.state desk.new).receipts bodies.old.bytes bodies.new.bytes) }
     ensures kept { KeepsTickets post.entry.number (B.state desk.old) (B.state desk.new) }
 {
     'sessions: loop {
@@ -147,8 +149,8 @@ where
     B::Shown: Drop,
     requires caller { IfSome (B.state desk.old).caller (λ n. number ≡ n) }
     requires sizes { (B.state desk.old).sizes ≡ sizes_of site.now.cfg.lbs }
-    ensures counted { IfOk result (λ bytes.
-        CountsThread site.now.cfg site.now.map plan.seed plan.threads plan.requests number bytes) }
+    ensures counted { IfOk result (λ bytes. CountsThread site.now.cfg site.now.map plan.seed plan.threads plan.requests number
+        (B.state desk.old).receipts (B.state desk.new).receipts bytes) }
     ensures kept { KeepsTickets number (B.state desk.old) (B.state desk.new) }
 {
     let peer = Peer {

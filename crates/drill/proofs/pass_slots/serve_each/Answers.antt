@@ -16,6 +16,9 @@ returns-clause-made g c =
     let lent : AreFrom 0 (map (λ s. s.number) c.as_mut_slice.result.now) =
     subst (λ (ns : List ℕ). AreFrom 0 ns) (sym (ap (λ xs. map (λ s. s.number) xs) c.as_mut_slice.ensures.value)) c.requires.numbers
     in
-    made_lent c.args.site.now c.args.plan _ c.serve_slots.new.slots _ (λ s. s.made)
+    made_lent c.args.site.now c.args.plan c.args.slots.now.items _ c.serve_slots.new.slots _ (λ s. s.desk.desk.desk.receipts)
+    (λ s. (s.desk.desk.desk.receipts, s.made)) c.as_mut_slice.ensures.value
     (written_back c.args.slots.now.len c.serve_slots.new.slots _ (sym c.as_mut_slice.ensures.len ∙ sym c.serve_slots.ensures.len))
-    c.serve_slots.ensures.len (made_numbered c.args.site.now c.args.plan c.as_mut_slice.result.now c.serve_slots.new.slots (λ s. s.made) (λ s. s.number) lent c.serve_slots.ensures.made)
+    c.serve_slots.ensures.len c.requires.fresh
+    (made_numbered c.args.site.now c.args.plan c.as_mut_slice.result.now c.serve_slots.new.slots (λ s. s.desk.desk.desk.receipts)
+    (λ s. (s.desk.desk.desk.receipts, s.made)) (λ s. s.number) lent c.serve_slots.ensures.made)

@@ -1,7 +1,6 @@
 -- All passes are back, with the numbers that the slots had, and the threads' counts are together.
-use Rattle.std.proofs.Common.{◌∙◌, List, arith, subst, sym}
-use Rattle.std.proofs.lemmas.List.{length-map}
-use Rattle.drill.proofs.CountLaws.{drill_counts}
+use Rattle.std.proofs.Common.{◌∙◌, List, arith, refl, subst, sym}
+use Rattle.drill.proofs.CountLaws.{slots_counted}
 use Rattle.lb_passes.specs.Placed.{AreBack}
 use Rattle.lb_passes.specs.declared.pass.Pass.{Pass}
 use Rattle.drill.proofs.PassLaws.{passes_back}
@@ -14,7 +13,9 @@ returns-in-Some-clause-back g c =
     (omega (arith, c.in_ok-slots.ensures.count, c.in_ok-slots.slots.ok.0)) c.in_ok-slots.ensures.numbers c.empty_slots.ensures.back)
 
 pub returns-in-Some-clause-counted : goal.returns-in-Some-clause-counted
-returns-in-Some-clause-counted g c =
-    drill_counts c.args.site.now c.args.plan _ _
-    (omega (arith, length-map c.serve_each.new.slots.items (λ s. s.made), c.in_ok-slots.ensures.count, c.requires.threads, c.serve_each.ensures.len, c.serve_each.new.slots.ok.0))
-    c.serve_each.ensures.made (sym c.empty_slots.ensures.bodies ∙ c.in-Some.is)
+returns-in-Some-clause-counted g c = (
+  _,
+  slots_counted c.args.site.now c.args.plan (λ s. s.desk.desk.desk.receipts) (λ s. s.made) c.serve_each.new.slots.items _ _
+      (omega (arith, c.in_ok-slots.ensures.count, c.requires.threads, c.serve_each.ensures.len, c.serve_each.new.slots.ok.0))
+      c.serve_each.ensures.made refl (sym c.empty_slots.ensures.bodies ∙ c.in-Some.is),
+)

@@ -1,5 +1,6 @@
 -- A slot for one pass after the other.
-use Rattle.std.proofs.Common.{◌≡◌, ◌∙◌, ℕ, ap, arith, length, subst, sym}
+use Rattle.std.proofs.Common.{◌≡◌, ◌∙◌, ℕ, [], ap, arith, length, subst, sym}
+use Rattle.std.proofs.lemmas.List.Elements.{All-nil, All-push, All-same}
 use Rattle.lb_passes.proofs.PlacedLaws.{AreNext, new_back, new_next}
 use Rattle.drill.proofs.PassLaws.{next_first, next_put, numbers_put}
 use Rattle.drill.proofs.pass_slots.slots_for.Goals as goal
@@ -13,6 +14,7 @@ passes-init g c =
       next =
           subst (λ (n : ℕ). AreNext o g.P.PassPlace.table g.P.PassPlace.given n c.into_iter-pass-iterator.result.rest.items) (sym (ap length none))
           (new_next _ _ _ c.args.passes _ (all ∙ c.into_vec-passes.ensures) c.requires.dealt);
+      fresh = All-same (λ s. s.desk.desk.desk.receipts ≡ []) _ _ none (All-nil (λ s. s.desk.desk.desk.receipts ≡ []));
       numbers = rw none tt;
       count = omega (arith, ap length none, c.in_ok-slots.slots.ok.0, ap length (all ∙ c.into_vec-passes.ensures), c.requires.dealt.many);
       room =
@@ -36,7 +38,10 @@ passes-preserved g c =
     let pushed = c.push_reserved.ensures.items in
     record {
       next = next_put _ _ _ _ _ _ _ _ _ inv.next first pushed;
-      numbers = numbers_put _ _ _ _ inv.numbers pushed (omega (arith, c.in_ok-slot_of.ensures, c.passes.slots.ok.0));
+      fresh =
+          All-same (λ s. s.desk.desk.desk.receipts ≡ []) _ _ pushed
+          (All-push (λ s. s.desk.desk.desk.receipts ≡ []) c.passes.slots.items _ inv.fresh c.in_ok-slot_of.ensures.fresh);
+      numbers = numbers_put _ _ _ _ inv.numbers pushed (omega (arith, c.in_ok-slot_of.ensures.number, c.passes.slots.ok.0));
       count = omega (arith, inv.count, ap length first, c.push_reserved.ensures.len);
       room = omega (arith, inv.room, ap length first, c.push_reserved.ensures.len, c.push_reserved.ensures.capacity);
     }

@@ -8,6 +8,9 @@ use Rattle.drill.proofs.running.close_books.Goals as goal
 pub returns-clause-sited : goal.returns-clause-sited
 returns-clause-sited g c = c.in_ok-books.ensures.sited
 
+pub returns-clause-history : goal.returns-clause-history
+returns-clause-history g c = c.in_ok-books.ensures.history
+
 pub returns-clause-once : goal.returns-clause-once
 returns-clause-once g c = c.in_ok-books.ensures.once c.args.left.none_forgot
 

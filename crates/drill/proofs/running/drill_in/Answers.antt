@@ -1,7 +1,6 @@
 use Rattle.std.proofs.Common.{sym, ◌∙◌}
-use Rattle.drill.specs.Counts.{CountsDrill}
-use Rattle.drill.proofs.ClosingLaws.{drill_books, started-nexts, started-sizes}
-use Rattle.drill.proofs.CountLaws.{counted_on}
+use Rattle.drill.proofs.ClosingLaws.{closed_once, drill_books, started-nexts, started-sizes}
+use Rattle.drill.proofs.StartLaws.{all_begin}
 use Rattle.drill.proofs.running.drill_in.Goals as goal
 
 pub returns-clause-one : goal.returns-clause-one
@@ -21,7 +20,12 @@ returns-clause-books g c =
 pub returns-clause-cause : goal.returns-clause-cause
 returns-clause-cause g c = c.close_books.ensures.cause
 
-pub returns-clause-counted : goal.returns-clause-counted
-returns-clause-counted g c =
-    counted_on _ (CountsDrill c.args.plan.seed c.args.plan.threads c.args.plan.requests) _ c.close_books.result c.close_books.ensures.bodies
-    c.in_ok-left.ensures.counted
+pub returns-clause-begins : goal.returns-clause-begins
+returns-clause-begins g c =
+    let started = c.requires.books in
+    all_begin (λ x. x.books) c.close_books.result _ c.args.books started.0 c.requires.starts started.1 started.2 c.close_books.ensures.history
+
+pub returns-clause-once : goal.returns-clause-once
+returns-clause-once g c =
+    closed_once c.args.plan.seed c.args.plan.threads c.args.plan.requests _ _ _ (λ x. x.books) (λ x. x.bodies) c.close_books.result
+    c.in_ok-left.ensures.counted c.close_books.ensures.bodies c.close_books.ensures.once

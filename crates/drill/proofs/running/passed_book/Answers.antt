@@ -27,6 +27,12 @@ pub returns-in-Ok : goal.returns-in-Ok
 returns-in-Ok g c = record {
   book =
       closed_drill _ _ _ _ _ _ c.in_ok-start.ensures.start (new_origin _ _ _ _ c.args.plan.some_threads c.in_ok-book.ensures) c.in_ok-left.ensures.back c.in-Ok.ensures;
-  counted = c.in_ok-left.ensures.counted;
-  compared = refl;
+  compared = record {
+    told = c.in_ok-left.ensures.counted.0;
+    counted = c.in_ok-left.ensures.counted.1;
+    once = λ locked. absurd cc;
+    closed = λ passes.
+        record { passes = _; many = c.in_ok-left.ensures.back.count; numbers = c.in_ok-left.ensures.back.numbers; closed = c.in-Ok.ensures };
+  };
+  receipts = refl;
 }

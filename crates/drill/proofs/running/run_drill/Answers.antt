@@ -21,5 +21,5 @@ returns-clause-bodies g c = c.tell.ensures.bodies
 pub returns-clause-receipts : goal.returns-clause-receipts
 returns-clause-receipts g c = c.tell.ensures.receipts
 
-pub returns-clause-counted : goal.returns-clause-counted
-returns-clause-counted g c = c.tell.ensures.counted
+pub returns-clause-compared : goal.returns-clause-compared
+returns-clause-compared g c = c.tell.ensures.compared

@@ -1,5 +1,4 @@
 use Rattle.std.proofs.Common.{arith}
-use Rattle.std.proofs.lemmas.List.{length-map}
 use Rattle.drill.proofs.CountLaws.{counts_left}
 use Rattle.drill.proofs.SlotLaws.{as_many, some_left}
 use Rattle.drill.proofs.slots.serve_all.Goals as goal
@@ -15,6 +14,6 @@ returns-clause-some g c =
 
 pub returns-clause-counted : goal.returns-clause-counted
 returns-clause-counted g c =
-    counts_left _ c.args.site.now c.args.plan _ c.left_in.result
-    (omega (arith, length-map c.serve_each.new.slots.items (λ s. s.made), c.in_ok-slots.ensures.count, c.serve_each.ensures.len, c.serve_each.new.slots.ok.0))
-    c.serve_each.ensures.made c.left_in.ensures.bodies
+    counts_left _ _ c.args.site.now c.args.plan _ _ c.serve_each.new.slots.items c.left_in.result
+    (omega (arith, c.in_ok-slots.ensures.count, c.serve_each.ensures.len, c.serve_each.new.slots.ok.0))
+    c.serve_each.ensures.made c.left_in.ensures.receipts c.left_in.ensures.bodies

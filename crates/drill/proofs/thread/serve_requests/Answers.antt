@@ -9,7 +9,7 @@ sessions-init g c = record {
   kept = untouched _ _;
   ready = c.requires.ready;
   seed = refl;
-  counted = none_so_far _ _ _ _;
+  counted = none_so_far _ _ _ _ _;
 }
 
 pub sessions-smaller : goal.sessions-smaller
@@ -28,7 +28,7 @@ sessions-preserved g c =
       ready = c.serve_text.ensures.ready;
       seed = c.in_ok-put_session.ensures.seed ∙ inv.seed;
       counted =
-          one_more _ _ _ _ _ _ _ _ _ inv.counted c.in_ok-put_session.ensures.ok.1
+          one_more _ _ _ _ _ _ _ _ _ _ _ _ inv.counted c.in_ok-put_session.ensures.ok.1
           (c.in_ok-put_session.ensures.ok.0 ∙ ap (λ (xs : List ℕ). xs ++ texts_of c.sessions.requests.seed (take 1000 c.sessions.requests.left)) c.new-text.ensures
           ∙ ap (λ (n : ℕ). texts_of n (take 1000 c.sessions.requests.left)) inv.seed) c.serve_text.ensures.rows;
     }

@@ -11,7 +11,8 @@ invariant-sessions g l = record {
   kept : KeepsTickets l.post.number (g.B.Desk.state l.fn.desk) (g.B.Desk.state l.desk);
   ready : IsReady (visit_at l.post) (g.B.Desk.state l.desk) (g.R.Meanings.beside l.reach);
   seed : l.requests.seed ≡ l.fn.requests.seed;
-  counted : AreSoFar (visit_at l.post) l.fn.requests.seed l.fn.requests.left l.requests.left l.fn.bodies.bytes l.bodies.bytes;
+  counted : AreSoFar (visit_at l.post) l.fn.requests.seed l.fn.requests.left l.requests.left (g.B.Desk.state l.fn.desk).receipts (g.B.Desk.state l.desk).receipts
+      l.fn.bodies.bytes l.bodies.bytes;
 }
 
 abbrev pub decreases-sessions : goal.decreases-sessions

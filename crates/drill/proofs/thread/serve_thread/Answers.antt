@@ -9,5 +9,5 @@ returns-in_err-from_slice-clause-kept g c = untouched _ _
 pub returns-clause-counted : goal.returns-clause-counted
 returns-clause-counted g c = (
   _,
-  all_of _ _ _ _ _ _ _ _ c.in_ok-serve_requests.ensures.counted c.new-requests.ensures.seed c.new-requests.ensures.left c.new-bodies.ensures c.bytes.ensures,
+  all_of _ _ _ _ _ _ _ _ _ _ c.in_ok-serve_requests.ensures.counted c.new-requests.ensures.seed c.new-requests.ensures.left c.new-bodies.ensures c.bytes.ensures,
 )

@@ -1,5 +1,5 @@
 use Rattle.std.proofs.Common.{ℕ, List, subst}
-use Rattle.drill.specs.Counts.{CountsDrill}
+use Rattle.drill.specs.Ends.{IsCompared}
 use Rattle.drill.specs.Written.{Told, WritesTold}
 use Rattle.drill.proofs.writing.write_drill.Goals as goal
 
@@ -12,9 +12,10 @@ returns-in-Ok g c =
         summary = c.in-Ok.ensures.summary;
         journal = c.in-Ok.ensures.journal;
         drilled = c.in-Ok.ensures.drilled;
-        counted =
-            subst (λ (n : ℕ). CountsDrill c.args.order.seed c.args.order.threads c.args.order.requests n) c.in-Ok.ensures.bodies
-            c.in-Ok.ensures.counted;
+        compared =
+            subst
+            (λ (n : ℕ). IsCompared c.args.order.seed c.args.order.threads c.args.order.requests c.args.order.passes n c.in-Ok.drilled.book)
+            c.in-Ok.ensures.bodies c.in-Ok.ensures.compared;
         book = c.in-Ok.ensures.book;
       };
       written =
