@@ -1,14 +1,13 @@
 //! The texts that are printed where the words are no command, and those that words ask for.
-ghost use Rattle.std.specs.Prelude.{◌≡◌, IfOk, is_some};
+ghost use Rattle.std.specs.Prelude.{◌≡◌, IfOk, Some, is_some, map, option_map};
 ghost use Rattle.std.specs.Str.{bytes_eq};
 ghost use Rattle.jk_cli.specs.Names.{name_of};
-ghost use Rattle.plain_commands.specs.AskedTexts.{asks_help, asks_text, asks_version};
+ghost use Rattle.plain_commands.specs.AskedTexts.{IsLineFor, asked_alone, asked_by, asked_of_command, asks_help, asks_version};
 
 use clap::error::ErrorKind;
-use jk_cli::{command, name_of};
+use jk_cli::{CommandName, command, name_of};
 use jk_io::{Bytes, NoMemory};
 use std::alloc::Global;
-use std::str;
 
 /// What is printed last where the words are no command, after what is wrong with them and how the command is used.
 pub const USAGE: &str = "jkd --help shows the commands.\n";
@@ -31,37 +30,92 @@ fn asks_version(word: &Bytes) -> bool
     is(word, b"--version") || is(word, b"-V")
 }
 
-fn names_command(word: &Bytes) -> bool
-    ensures { result ≡ is_some (name_of word.now) }
-{
-    name_of(word.as_slice()).is_some()
+/// A text that words ask for in place of a command.
+#[derive(Clone, Copy)]
+pub enum AskedText {
+    Version,
+    /// The help of the program.
+    Help,
+    /// The help of a command.
+    HelpOf(CommandName),
 }
 
-/// Whether the words ask for a text: `--help`, `--version`, `COMMAND --help`, or `help`, alone or before a command.
-fn ask_for_text(words: &[Bytes]) -> bool
-    ensures { result ≡ asks_text words.now }
+// The help of the command that a word names.
+fn help_of(word: &Bytes) -> Option<AskedText>
+    ensures { result ≡ option_map AskedText.HelpOf (name_of word.now) }
+{
+    let name = name_of(word.as_slice())?;
+    Some(AskedText::HelpOf(name))
+}
+
+fn asked_alone(word: &Bytes) -> Option<AskedText>
+    ensures { result ≡ asked_alone word.now }
+{
+    if asks_help(word) || is(word, b"help") {
+        Some(AskedText::Help)
+    } else if asks_version(word) {
+        Some(AskedText::Version)
+    } else {
+        None
+    }
+}
+
+fn asked_of_command(first: &Bytes, second: &Bytes) -> Option<AskedText>
+    ensures { result ≡ asked_of_command first.now second.now }
+{
+    if asks_help(second) {
+        help_of(first)
+    } else if is(first, b"help") {
+        help_of(second)
+    } else {
+        None
+    }
+}
+
+/// The text that the words ask for: by `--help`, `--version`, `COMMAND --help`, or `help`, alone or before a command.
+fn asked_by(words: &[Bytes]) -> Option<AskedText>
+    ensures { result ≡ asked_by words.now }
 {
     match words {
-        [word] => asks_help(word) || asks_version(word) || is(word, b"help"),
-        [first, second] => {
-            (names_command(first) && asks_help(second))
-                || (is(first, b"help") && names_command(second))
-        }
-        _ => false,
+        [word] => asked_alone(word),
+        [first, second] => asked_of_command(first, second),
+        _ => None,
     }
 }
 
-// The words as `clap` takes them, after the program's name. `help` is the wish for the text of what follows it.
-fn line_of<'w>(alloc: Global, words: &'w [Bytes]) -> Result<Vec<&'w str>, NoMemory> {
+// The word that names a command.
+fn word_of(name: CommandName) -> &'static str
+    ensures { name_of result.now ≡ Some name }
+{
+    match name {
+        CommandName::Play => "play",
+        CommandName::Dry => "dry",
+        CommandName::Config => "config",
+        CommandName::Match => "match",
+        CommandName::Check => "check",
+        CommandName::Log => "log",
+        CommandName::Follow => "follow",
+        CommandName::Drill => "drill",
+        CommandName::Serve => "serve",
+        CommandName::Container => "container",
+        CommandName::Stop => "stop",
+        CommandName::Demo => "demo",
+    }
+}
+
+// What `clap` is asked for a text.
+fn line_for(alloc: Global, asked: AskedText) -> Result<Vec<&'static str>, NoMemory>
+    ensures { IfOk result (λ line. IsLineFor asked (map (λ word. word.now) line.items)) }
+{
     let mut line = Vec::new(alloc);
     line.push("jkd")?;
-    for word in words {
-        if !is(word, b"help") {
-            line.push(str::from_utf8(word.as_slice()).unwrap_or(""))?;
+    match asked {
+        AskedText::Version => line.push("--version")?,
+        AskedText::Help => line.push("--help")?,
+        AskedText::HelpOf(name) => {
+            line.push(word_of(name))?;
+            line.push("--help")?;
         }
-    }
-    if words.first().is_some_and(|word| is(word, b"help")) {
-        line.push("--help")?;
     }
     Ok(line)
 }
@@ -82,18 +136,12 @@ fn text_for(alloc: Global, line: &[&str]) -> Result<String, NoMemory> {
     }
 }
 
-// The text that `clap` answers to these words.
-fn text_of(alloc: Global, words: &[Bytes]) -> Result<String, NoMemory> {
-    text_for(alloc, line_of(alloc, words)?.as_slice())
-}
-
-/// The text that the words ask for, where they ask for one.
+/// The text that the words ask for, where they ask for one: what `clap` answers to the line for it. What stands in it is `clap`'s.
 pub fn asked_text(alloc: Global, words: &[Bytes]) -> Result<Option<String>, NoMemory>
-    ensures { IfOk result (λ text. is_some text ≡ asks_text words.now) }
+    ensures { IfOk result (λ text. is_some text ≡ is_some (asked_by words.now)) }
 {
-    if ask_for_text(words) {
-        Ok(Some(text_of(alloc, words)?))
-    } else {
-        Ok(None)
+    match asked_by(words) {
+        Some(asked) => Ok(Some(text_for(alloc, line_for(alloc, asked)?.as_slice())?)),
+        None => Ok(None),
     }
 }
