@@ -1,5 +1,6 @@
 pub mod AddedLemmas
 pub mod AgainLemmas
+pub mod FirstLemmas
 pub mod GivenLemmas
 pub mod KindLemmas
 pub mod NoticeLemmas

@@ -4,8 +4,8 @@
 //! Source: own rules (docs/FORMATS.md, "What a person is told"); which directives have an effect in mod_jk: its reference,
 //! "workers.properties" and "uriworkermap.properties".
 //! Shapes: `KeptFiles` and `CountedInput` go round the files and the input of a command, and `remarks_on` is called once it
-//! ended, with what the command itself found of a site's files: these are judged there, and not here. Nothing here changes what
-//! the command reads, writes or answers.
+//! ended, with what the command itself found of a site's files: these are judged there, and here only the lines after the first
+//! refused one. Nothing here changes what the command reads, writes or answers.
 //! Contract: `site_remarks`. Read first: specs/Remarks.antt, then specs/Refused.antt, Explained.antt, Notices.antt, MapNotices.antt.
 //! `remarks_on`, a clause for each status, and `cause`; `effects_on`, what of accepted files has no effect; `KeptFiles` and
 //! `CountedInput` are read as what they go round, and keep how a read went (clauses `kept` and `seen`): specs/Told.antt, then

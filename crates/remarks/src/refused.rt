@@ -1,10 +1,11 @@
 //! The lines of a file that are refused, each by itself.
-ghost use Rattle.std.specs.Prelude.{◌≡◌, ◌≤◌, ◌||◌, ◌++◌, length, IfOk};
-ghost use Rattle.std.specs.Option.{is_some, option_map};
+ghost use Rattle.std.specs.Prelude.{◌≡◌, ◌≤◌, ◌++◌, length, IfOk, Some};
+ghost use Rattle.std.specs.Option.{option_map};
 ghost use Rattle.jk_io.specs.declared.whole_input.TheConstants.{MAX_INPUT_BYTES};
 ghost use Rattle.remarks.specs.Added.{Adds};
 ghost use Rattle.remarks.specs.Explained.{said_of};
-ghost use Rattle.remarks.specs.Refused.{is_refused_by_line, refused_lines, told_if, wrong_by, wrong_line, wrong_rule};
+ghost use Rattle.remarks.specs.Firsts.{refusal_in};
+ghost use Rattle.remarks.specs.Refused.{IsKnown, code_by, first_in, line_code, refused_lines, told_if, words_by, wrong_by};
 
 use crate::explain::{FileLine, map_words, put_said, workers_words};
 use crate::remark_out::RemarkOut;
@@ -23,42 +24,65 @@ pub(crate) enum Judge<'a, 'c> {
     Map(&'a Workers<'c>),
 }
 
-fn wrong_line(number: u32, line: &[u8]) -> Result<Option<&'static [u8]>, NoMemory>
-    ensures { IfOk result (λ words. option_map (λ t. t.now) words ≡ wrong_line number line.now) }
+/// The first refusal of a file.
+#[derive(Clone, Copy)]
+pub(crate) struct FirstRefusal {
+    pub(crate) line: u32,
+    pub(crate) code: u8,
+}
+
+fn line_code(number: u32, line: &[u8]) -> Result<Option<u8>, NoMemory>
+    ensures { IfOk result (λ code. code ≡ line_code number line.now) }
 {
     match said(true, number, trim(line)) {
         Ok(_) => Ok(None),
-        Err(PropsError::Refused { code, .. }) => Ok(Some(workers_words(line, code))),
+        Err(PropsError::Refused { code, .. }) => Ok(Some(code)),
         Err(PropsError::NoMemory) => Err(NoMemory),
     }
 }
 
-fn wrong_rule(
-    alloc: Global,
-    workers: &Workers<'_>,
-    number: u32,
-    line: &[u8],
-) -> Result<Option<&'static [u8]>, NoMemory>
-    ensures { IfOk result (λ words. option_map (λ t. t.now) words ≡ wrong_rule workers.now number line.now) }
-{
-    match refusal_of(alloc, workers, number, trim(line))? {
-        None => Ok(None),
-        Some(code) => Ok(Some(map_words(code))),
-    }
-}
-
-/// What is wrong with a line by itself, if something is.
-fn wrong(
+/// The number for which a line is refused by itself, if it is.
+fn code_by(
     alloc: Global,
     judge: Judge<'_, '_>,
     number: u32,
     line: &[u8],
-) -> Result<Option<&'static [u8]>, NoMemory>
-    ensures { IfOk result (λ words. option_map (λ t. t.now) words ≡ wrong_by judge.entry number line.now) }
+) -> Result<Option<u8>, NoMemory>
+    ensures { IfOk result (λ code. code ≡ code_by judge.entry number line.now) }
 {
     match judge {
-        Judge::Workers => wrong_line(number, line),
-        Judge::Map(workers) => wrong_rule(alloc, workers, number, line),
+        Judge::Workers => line_code(number, line),
+        Judge::Map(workers) => refusal_of(alloc, workers, number, trim(line)),
+    }
+}
+
+/// The same where the first refusal of the file is known: up to that line none is judged again.
+fn code_after(
+    alloc: Global,
+    judge: Judge<'_, '_>,
+    first: FirstRefusal,
+    number: u32,
+    line: &[u8],
+) -> Result<Option<u8>, NoMemory>
+    requires { IsKnown (refusal_in first) number (code_by judge number line.now) }
+    ensures { IfOk result (λ code. code ≡ code_by judge.entry number line.now) }
+{
+    if number < first.line {
+        Ok(None)
+    } else if number == first.line {
+        Ok(Some(first.code))
+    } else {
+        code_by(alloc, judge, number, line)
+    }
+}
+
+/// What is wrong with a line that is refused for this number.
+fn words_by(judge: Judge<'_, '_>, line: &[u8], code: u8) -> &'static [u8]
+    ensures { result.now ≡ words_by judge.entry line.now code }
+{
+    match judge {
+        Judge::Workers => workers_words(line, code),
+        Judge::Map(_) => map_words(code),
     }
 }
 
@@ -77,57 +101,48 @@ fn put_told<O: Sink + Drop>(
     out.put(buffer.as_slice())
 }
 
-/// Adds what is wrong with a line, if something is.
+/// Adds what is wrong with a line, if it is refused.
 fn put_wrong<O: Sink + Drop>(
     out: &mut RemarkOut<O>,
     buffer: &mut Bytes,
+    judge: Judge<'_, '_>,
     at: FileLine<'_>,
     line: &[u8],
-    words: Option<&[u8]>,
+    code: Option<u8>,
 ) -> Result<(), IoError>
     ensures { Adds result out.old out.new
-        (told_if at.entry.file.now at.entry.line line.now (option_map (λ t. t.now) words.entry)) }
+        (told_if at.entry.file.now at.entry.line line.now (option_map (words_by judge.entry line.now) code)) }
 {
-    match words {
+    match code {
         None => Ok(()),
-        Some(words) => put_told(out, buffer, at, line, words),
+        Some(code) => put_told(out, buffer, at, line, words_by(judge, line, code)),
     }
 }
 
-/// Whether something was wrong before, or is.
-fn is_told(before: bool, words: Option<&[u8]>) -> bool
-    ensures { result ≡ (before || is_some words.entry) }
-{
-    before || words.is_some()
-}
-
-/// Adds each line of a file that is refused by itself, and answers whether there is one. It is written as it is found, and not
-/// held.
+/// Adds each line of a file that is refused by itself, the first of which is known. It is written as it is found, and not held.
 pub(crate) fn put_refused<O: Sink + Drop>(
     alloc: Global,
     out: &mut RemarkOut<O>,
     judge: Judge<'_, '_>,
     file: &SiteFile<'_>,
-) -> Result<bool, IoError>
-    requires { length file.now.text.now ≤ MAX_INPUT_BYTES }
-    ensures adds { Adds result out.old out.new
-        (refused_lines (wrong_by judge.entry) file.now.name.now file.now.text.now) }
-    ensures some { IfOk result (λ told. told ≡ is_refused_by_line (wrong_by judge.entry) file.now.text.now) }
+    first: FirstRefusal,
+) -> Result<(), IoError>
+    requires short { length file.now.text.now ≤ MAX_INPUT_BYTES }
+    requires first { first_in (code_by judge) file.now.text.now ≡ Some (refusal_in first) }
+    ensures { Adds result out.old out.new (refused_lines (wrong_by judge.entry) file.now.name.now file.now.text.now) }
 {
     let mut buffer = Bytes::new(alloc);
-    let mut told = false;
     let mut number: u32 = 0;
     let mut rest = without_mark(file.text);
     while let Some((line, behind)) = first_line(rest) {
         number += 1;
-        let words = wrong(alloc, judge, number, line)?;
-        told = is_told(told, words);
+        let code = code_after(alloc, judge, first, number, line)?;
         let at = FileLine {
             file: file.name,
             line: number,
         };
-        put_wrong(out, &mut buffer, at, line, words)?;
+        put_wrong(out, &mut buffer, judge, at, line, code)?;
         rest = behind;
     }
-    Ok(told)
+    Ok(())
 }

@@ -1,4 +1,6 @@
 //! Remarks on a site's files: why they are refused, and what of those that are accepted has no effect.
+ghost use Rattle.std.specs.Prelude.{◌≡◌, Err};
+ghost use Rattle.site_mounts.specs.Lines.{read_text};
 ghost use Rattle.site_reports.specs.Found.{workers_refusal};
 ghost use Rattle.site_reports.specs.declared.found.SiteFound.TheVariants as found;
 ghost use Rattle.remarks.specs.Explained.{explained_workers};
@@ -6,21 +8,24 @@ ghost use Rattle.remarks.specs.KindTables.{IsKindTable};
 ghost use Rattle.remarks.specs.Notices.{kinds_of, notices, site_kinds};
 ghost use Rattle.remarks.specs.Added.{Adds, AddsFor, AddsSome};
 ghost use Rattle.remarks.specs.Again.{ReadsProperties};
+ghost use Rattle.remarks.specs.Firsts.{refusal_in};
 ghost use Rattle.remarks.specs.Refused.{refused_lines, wrong_rule};
-ghost use Rattle.remarks.specs.Remarks.{AreRemarks, IsShortFile, as_file, remarks_of, workers_refusals, workers_remarks};
+ghost use Rattle.remarks.specs.Remarks.{AreRemarks, IsShortFile, remarks_of, workers_refusals, workers_remarks};
 
 use crate::again::line_table;
 use crate::explain::explain_workers;
 use crate::kinds::{KindTable, kind_table, redirect_table};
 use crate::notices::{LineTables, put_notices};
-use crate::refused::{Judge, put_refused};
+use crate::refused::{FirstRefusal, Judge, put_refused};
 use crate::remark_out::RemarkOut;
 use crate::site_effects::effects_on;
 use crate::site_file::{SiteFile, SiteNames};
 use jk_io::{Bytes, IoError, Sink};
 use site_config::Config;
 use site_mounts::Workers;
-use site_reports::{AcceptedSite, AcceptedWorkers, RefusedMap, RefusedWorkers, SiteFound};
+use site_reports::{
+    AcceptedSite, AcceptedWorkers, RefusedMap, RefusedPart, RefusedWorkers, SiteFound,
+};
 use std::alloc::Global;
 
 /// Adds each line of a map that is refused.
@@ -29,14 +34,15 @@ fn put_map_refusals<O: Sink + Drop>(
     out: &mut RemarkOut<O>,
     config: &Config,
     map: &SiteFile<'_>,
+    first: FirstRefusal,
 ) -> Result<(), IoError>
-    requires { IsShortFile map.now }
+    requires short { IsShortFile map.now }
+    requires first { read_text config.now map.now.text.now ≡ Err (refusal_in first) }
     ensures { Adds result out.old out.new
         (refused_lines (wrong_rule config.now) map.now.name.now map.now.text.now) }
 {
     let workers = Workers::new(alloc, config)?;
-    put_refused(alloc, out, Judge::Map(&workers), map)?;
-    Ok(())
+    put_refused(alloc, out, Judge::Map(&workers), map, first)
 }
 
 /// Adds what is wrong with the workers of a workers.properties together.
@@ -53,26 +59,6 @@ fn put_workers_refusal<O: Sink + Drop>(
     let mut said = Bytes::new(alloc);
     explain_workers(&mut said, workers, line, code)?;
     out.put(said.as_slice())
-}
-
-/// Adds each line of a workers.properties that is refused by itself, or else what is wrong with the workers together.
-fn put_workers_refusals<O: Sink + Drop>(
-    alloc: Global,
-    out: &mut RemarkOut<O>,
-    workers: &SiteFile<'_>,
-    line: u32,
-    code: u8,
-) -> Result<(), IoError>
-    requires { IsShortFile workers.now }
-    ensures { Adds result out.old out.new
-        (workers_refusals (as_file workers.now) (record { line = line; code = code })) }
-{
-    let told = put_refused(alloc, out, Judge::Workers, workers)?;
-    if told {
-        Ok(())
-    } else {
-        put_workers_refusal(alloc, out, workers, line, code)
-    }
 }
 
 /// Adds what in a workers.properties has no effect.
@@ -134,7 +120,11 @@ fn put_refused_map<O: Sink + Drop>(
         name: names.map,
         text: refused.text.as_slice(),
     };
-    put_map_refusals(alloc, out, &refused.workers.config, &file)
+    let first = FirstRefusal {
+        line: refused.line,
+        code: refused.code,
+    };
+    put_map_refusals(alloc, out, &refused.workers.config, &file, first)
 }
 
 /// Adds what is said of files that are accepted.
@@ -155,7 +145,7 @@ fn put_accepted<O: Sink + Drop>(
     }
 }
 
-/// Adds what is said of a workers.properties that is refused.
+/// Adds each line of a workers.properties that is refused by itself, or else what is wrong with the workers together.
 fn put_refused_workers<O: Sink + Drop>(
     alloc: Global,
     out: &mut RemarkOut<O>,
@@ -168,7 +158,14 @@ fn put_refused_workers<O: Sink + Drop>(
         name,
         text: refused.text.as_slice(),
     };
-    put_workers_refusals(alloc, out, &file, refused.line, refused.code)
+    let first = FirstRefusal {
+        line: refused.line,
+        code: refused.code,
+    };
+    match refused.part {
+        RefusedPart::Line => put_refused(alloc, out, Judge::Workers, &file, first),
+        RefusedPart::Workers => put_workers_refusal(alloc, out, &file, first.line, first.code),
+    }
 }
 
 /// Adds what a person is told of a site's files, which a command judged: of the first that is refused each line that is
