@@ -3,6 +3,7 @@ pub mod AgainLemmas
 pub mod FirstLemmas
 pub mod GivenLemmas
 pub mod KindLemmas
+pub mod MapNoticeLemmas
 pub mod NoticeLemmas
 pub mod RefusedLemmas
 pub mod WalkLemmas

@@ -1,28 +1,20 @@
--- Notices, part after part and line after line.
+-- Notices, line after line.
 use Rattle.std.specs.Bool.{⊤}
-use Rattle.std.proofs.Common.{◌≡◌, ℕ, List, [], ◌∷◌, ◌++◌, length, Option, Result, Ok, Err, OnOk, refl, sym, ap, ◌∙◌, arith, subst}
+use Rattle.std.proofs.Common.{◌≡◌, ℕ, List, ◌++◌, Option, Result, Ok, Err, OnOk, sym, ap, ◌∙◌, subst}
 use Rattle.std.proofs.lemmas.Grind.{flat_map-append}
 use Rattle.std.specs.List.{flat_map}
 use Rattle.site_config.specs.declared.property.Property.{Property}
 use Rattle.jk_io.specs.Told.{appended}
 use Rattle.jk_io.specs.declared.failures.IoError.{IoError}
 use Rattle.jk_io.specs.declared.failures.IoError.TheVariants as Io
-use Rattle.site_config.specs.Lines.{lines}
-use Rattle.site_config.specs.declared.values.WorkerKind.{WorkerKind}
 use Rattle.remarks.specs.Added.{AddsText, IsFrontOfText}
 use Rattle.remarks.proofs.AddedLemmas.{adds_same, adds_then, front_more}
-use Rattle.remarks.specs.MapNotices.{notices_from}
 use Rattle.remarks.specs.Notices.{SiteKinds, notice}
 
 -- what a call makes at Ok is what its caller means
 pub on_ok : {T E : Type 0} (r : Result T E) (P Q : Type 0) → OnOk r P → (P → Q) → OnOk r Q
 on_ok (Ok x) P Q h f = f h
 on_ok (Err e) P Q h f = tt
-
--- no notice where no line is left
-pub none_left : (file : List ℕ) (line : ℕ) (kinds : List (List ℕ × WorkerKind)) (rest : List ℕ) → length rest ≡ 0 → notices_from file line kinds (lines rest) ≡ []
-none_left file line kinds [] none = refl
-none_left file line kinds (b ∷ bs) none = absurd (omega arith)
 
 -- the notices of one line more
 pub notices_more : {T : Type 0} (r : Result T IoError) (file : List ℕ) (kinds : SiteKinds) (ps front back : List Property) (start told new : Option (List ℕ))

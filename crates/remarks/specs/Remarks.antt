@@ -4,8 +4,8 @@
 use Rattle.std.specs.Prelude.{◌≡◌, ◌≤◌, ℕ, Bool, true, false, List, [], ◌++◌, length}
 use Rattle.site_config.specs.Refusals.{LineRefusal}
 use Rattle.site_config.specs.declared.property.Property.{Property}
-use Rattle.site_config.specs.declared.values.WorkerKind.{WorkerKind}
 use Rattle.site_config.specs.declared.config.Config.{Config}
+use Rattle.site_mounts.specs.declared.map_note.MapNote.{MapNote}
 use Rattle.site_mounts.specs.declared.rule.Rule.{Rule}
 use Rattle.site_reports.specs.Found.{workers_refusal}
 use Rattle.site_reports.specs.declared.found.SiteFound.{SiteFound}
@@ -14,7 +14,7 @@ use Rattle.remarks.specs.declared.site_file.SiteFile.{SiteFile}
 use Rattle.remarks.specs.Again.{ReadsProperties}
 use Rattle.remarks.specs.Explained.{explained_workers}
 use Rattle.remarks.specs.MapNotices.{empty_words, map_notices}
-use Rattle.remarks.specs.Notices.{kinds_of, notices, site_kinds}
+use Rattle.remarks.specs.Notices.{notices, site_kinds}
 use Rattle.remarks.specs.Refused.{is_refused_by_line, refused_lines, wrong_line, wrong_rule}
 
 -- of the lines of a workers.properties that gives this configuration
@@ -22,13 +22,13 @@ abbrev pub workers_remarks : (effects : Bool) → (file : List ℕ) → Config �
 workers_remarks true file c ps = notices file (site_kinds c) ps
 workers_remarks false file c ps = []
 
--- of a map of these rules, by the types of the workers: what in it has no effect, and what it means where it has no rule
-abbrev pub effect_words : List ℕ × List ℕ → (kinds : List (List ℕ × WorkerKind)) → List Rule → List ℕ
-effect_words map kinds rules = map_notices map.0 kinds map.1 ++ empty_words map.0 rules
+-- of a map with these notes and rules: what of it has no effect, and what it means where it has no rule
+abbrev pub effect_words : (file : List ℕ) → List MapNote → List Rule → List ℕ
+effect_words file notes rules = map_notices file notes ++ empty_words file rules
 
-abbrev pub rules_remarks : (effects : Bool) → Config → List ℕ × List ℕ → List Rule → List ℕ
-rules_remarks true c map rules = effect_words map (kinds_of c) rules
-rules_remarks false c map rules = []
+abbrev pub rules_remarks : (effects : Bool) → (file : List ℕ) → List MapNote → List Rule → List ℕ
+rules_remarks true file notes rules = effect_words file notes rules
+rules_remarks false file notes rules = []
 
 -- what is wrong with the workers together, told where no line is refused by itself
 abbrev pub together : (by_line : Bool) → (workers : List ℕ × List ℕ) → LineRefusal → List ℕ
@@ -52,17 +52,13 @@ Lines (found.MapRefused r) ps = ReadsProperties r.workers.text ps
 abbrev pub remarks_of : (effects : Bool) → (workers map : List ℕ) → SiteFound → List Property → List ℕ
 remarks_of effects workers map (found.Workers w) ps = workers_remarks effects workers w.config ps
 remarks_of effects workers map (found.Site s) ps =
-    workers_remarks effects workers s.workers.config ps ++ rules_remarks effects s.workers.config (map, s.map) s.rules
+    workers_remarks effects workers s.workers.config ps ++ rules_remarks effects map s.notes s.rules
 remarks_of effects workers map (found.WorkersRefused r) ps = workers_refusals (workers, r.text) (workers_refusal r)
 remarks_of effects workers map (found.MapRefused r) ps =
     workers_remarks effects workers r.workers.config ps ++ refused_lines (wrong_rule r.workers.config) map r.text
 
 abbrev pub AreRemarks : (effects : Bool) → (workers map : List ℕ) → SiteFound → (out : List ℕ) → Type 0
 AreRemarks effects workers map f out = (ps : List Property) × Lines f ps × (out ≡ remarks_of effects workers map f ps)
-
--- of a workers.properties of this configuration, and a map of these rules
-abbrev pub effects_over : Config → (workers map : List ℕ × List ℕ) → List Rule → List Property → List ℕ
-effects_over c workers map rules ps = workers_remarks true workers.0 c ps ++ rules_remarks true c map rules
 
 -- a file's name and text
 abbrev pub as_file : SiteFile → List ℕ × List ℕ

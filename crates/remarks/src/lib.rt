@@ -23,7 +23,6 @@ mod kept_files;
 mod kinds;
 mod last_read;
 mod map_effects;
-mod map_notices;
 mod notices;
 mod read_file;
 mod refused;

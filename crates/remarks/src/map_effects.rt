@@ -1,17 +1,80 @@
-//! Remarks on a map that is accepted: the parts without effect, and a map without a rule.
-ghost use Rattle.std.specs.Prelude.{◌≡◌, IfOk};
-ghost use Rattle.remarks.specs.Added.{Adds, AddsFor};
-ghost use Rattle.remarks.specs.KindTables.{IsKindTable};
-ghost use Rattle.remarks.specs.MapNotices.{empty_words};
-ghost use Rattle.remarks.specs.Remarks.{IsShortFile, as_file, effect_words};
+//! Remarks on a map that is accepted: what of it has no effect, and a map without a rule.
+ghost use Rattle.std.specs.Prelude.{◌≡◌, ◌++◌, IfOk, OnOk};
+ghost use Rattle.remarks.specs.Added.{Adds};
+ghost use Rattle.remarks.specs.MapNotices.{empty_words, map_notice, map_notices};
+ghost use Rattle.remarks.specs.Remarks.{effect_words};
 
-use crate::kinds::KindTable;
-use crate::map_notices::put_map_notices;
+use crate::explain::{FileLine, put_said};
 use crate::remark_out::RemarkOut;
-use crate::site_file::SiteFile;
 use jk_io::{Bytes, IoError, NoMemory, Sink};
-use site_mounts::UriMap;
+use site_mounts::{MapNote, NoPartEffect, UriMap};
 use std::alloc::Global;
+
+/// Adds the notice of a note.
+fn put_notice(out: &mut Bytes, file: &[u8], note: &MapNote) -> Result<(), NoMemory>
+    ensures { OnOk result (out.new ≡ out.old ++ map_notice file.now note.now) }
+{
+    let at = FileLine {
+        file,
+        line: note.line,
+    };
+    match &note.why {
+        NoPartEffect::Exclusion => put_said(
+            out,
+            at,
+            b"",
+            b"what follows the ; has no effect on an exclusion",
+        ),
+        NoPartEffect::StatusWorker => put_said(
+            out,
+            at,
+            b"",
+            b"what follows the ; has no effect on a worker of type status",
+        ),
+        NoPartEffect::ListsNobody(name) => put_said(
+            out,
+            at,
+            name.as_slice(),
+            b" names no member and has no effect",
+        ),
+        NoPartEffect::Unsupported(name) => put_said(
+            out,
+            at,
+            name.as_slice(),
+            b" is not supported in a rule and has no effect",
+        ),
+    }
+}
+
+/// Adds the notice of a note. What `buffer` holds before doesn't count.
+fn put_buffered<O: Sink + Drop>(
+    out: &mut RemarkOut<O>,
+    buffer: &mut Bytes,
+    file: &[u8],
+    note: &MapNote,
+) -> Result<(), IoError>
+    ensures { Adds result out.old out.new (map_notice file.now note.now) }
+{
+    buffer.clear();
+    put_notice(buffer, file, note)?;
+    out.put(buffer.as_slice())
+}
+
+/// Adds a line for each note.
+fn put_notices<O: Sink + Drop>(
+    alloc: Global,
+    out: &mut RemarkOut<O>,
+    file: &[u8],
+    notes: &[MapNote],
+) -> Result<(), IoError>
+    ensures { Adds result out.old out.new (map_notices file.now notes.now) }
+{
+    let mut buffer = Bytes::new(alloc);
+    for note in notes {
+        put_buffered(out, &mut buffer, file, note)?;
+    }
+    Ok(())
+}
 
 /// What is said of a map of which no line has a rule.
 fn empty_words(alloc: Global, file: &[u8], rules: &UriMap) -> Result<Bytes, NoMemory>
@@ -29,12 +92,12 @@ fn empty_words(alloc: Global, file: &[u8], rules: &UriMap) -> Result<Bytes, NoMe
 fn put_empty<O: Sink + Drop>(
     alloc: Global,
     out: &mut RemarkOut<O>,
-    map: &SiteFile<'_>,
+    file: &[u8],
     rules: &UriMap,
 ) -> Result<(), IoError>
-    ensures { Adds result out.old out.new (empty_words map.now.name.now rules.now) }
+    ensures { Adds result out.old out.new (empty_words file.now rules.now) }
 {
-    let said = empty_words(alloc, map.name, rules)?;
+    let said = empty_words(alloc, file, rules)?;
     out.put(said.as_slice())
 }
 
@@ -42,13 +105,12 @@ fn put_empty<O: Sink + Drop>(
 pub(crate) fn put_map_effects<O: Sink + Drop>(
     alloc: Global,
     out: &mut RemarkOut<O>,
-    table: &KindTable<'_>,
-    map: &SiteFile<'_>,
+    file: &[u8],
+    notes: &[MapNote],
     rules: &UriMap,
 ) -> Result<(), IoError>
-    requires { IsShortFile map.now }
-    ensures { AddsFor result out.old out.new (IsKindTable table.now) (λ kinds. effect_words (as_file map.now) kinds rules.now) }
+    ensures { Adds result out.old out.new (effect_words file.now notes.now rules.now) }
 {
-    put_map_notices(alloc, out, table, map)?;
-    put_empty(alloc, out, map, rules)
+    put_notices(alloc, out, file, notes)?;
+    put_empty(alloc, out, file, rules)
 }

@@ -84,7 +84,7 @@ pub(crate) fn put_effects<O: Sink + Drop>(
 }
 
 /// Adds what is said of a workers.properties that is accepted.
-fn put_workers<O: Sink + Drop>(
+pub(crate) fn put_workers<O: Sink + Drop>(
     alloc: Global,
     out: &mut RemarkOut<O>,
     name: &[u8],

@@ -3,14 +3,15 @@ ghost use Rattle.std.specs.Prelude.{◌≡◌, ◌≤◌, Ok, Err, length, true}
 ghost use Rattle.jk_io.specs.declared.whole_input.TheConstants.{MAX_INPUT_BYTES};
 ghost use Rattle.site_config.specs.Refusals.{LineRefusal};
 ghost use Rattle.site_mounts.specs.Lines.{read_text};
+ghost use Rattle.site_mounts.specs.MapNotes.{map_notes};
 ghost use Rattle.site_mounts.specs.Sites.{stands_in};
 ghost use Rattle.site_reports.specs.RefusedParts.{IsRefusedPart};
 ghost use Rattle.site_workers.specs.Site.{IsConfig, IsRefusedText};
 
 use crate::refused_part::RefusedPart;
-use jk_io::Bytes;
+use jk_io::{Bytes, ListOf};
 use site_config::Config;
-use site_mounts::UriMap;
+use site_mounts::{MapNote, UriMap};
 
 /// A workers.properties that is accepted.
 #[derive(Drop)]
@@ -27,8 +28,11 @@ pub struct AcceptedSite {
     pub workers: AcceptedWorkers,
     pub map: Bytes,
     pub rules: UriMap,
+    /// What of the map has no effect.
+    pub notes: ListOf<MapNote>,
     pub ghost short: { length map ≤ MAX_INPUT_BYTES },
     pub ghost gives: { read_text workers.config map ≡ Ok rules },
+    pub ghost noted: { notes ≡ map_notes workers.config map },
     pub ghost stands: { stands_in workers.config rules ≡ true },
 }
 

@@ -10,7 +10,7 @@ use crate::found::{AcceptedSite, AcceptedWorkers, RefusedMap, RefusedWorkers, Si
 use crate::refused_part::RefusedPart;
 use jk_io::{Bytes, NoMemory};
 use site_config::{Config, PropertyLine, PropsError, read_entries};
-use site_mounts::{MapError, read_map};
+use site_mounts::{MapError, read_rules};
 use site_workers::configure;
 use std::alloc::Global;
 
@@ -93,11 +93,12 @@ fn judge_map(alloc: Global, workers: AcceptedWorkers, text: Bytes) -> Result<Sit
     requires short { length text ≤ MAX_INPUT_BYTES }
     ensures { IfOk result (FindsMap workers text) }
 {
-    match read_map(alloc, text.as_slice(), &workers.config) {
-        Ok(rules) => Ok(SiteFound::Site(AcceptedSite {
+    match read_rules(alloc, text.as_slice(), &workers.config) {
+        Ok(noted) => Ok(SiteFound::Site(AcceptedSite {
             workers,
             map: text,
-            rules,
+            rules: noted.map,
+            notes: noted.notes,
         })),
         Err(MapError::Refused { line, code }) => Ok(SiteFound::MapRefused(RefusedMap {
             workers,

@@ -5,23 +5,21 @@ use Rattle.remarks.proofs.map_effects.put_map_effects.Goals as goal
 
 pub returns : goal.returns
 returns g c = record {
-  added = λ kinds table.
-      let map = c.args.map.now in
-      let first = map_notices map.name.now kinds map.text.now in
-      let second = empty_words map.name.now c.args.rules.now in
-      adds_then c.put_empty.result c.args.out.now.said _ _ first second (c.in_ok-put_map_notices.ensures.added kinds table) c.put_empty.ensures.added;
-  cause = cause_after c.put_empty.result _ _ _ (c.in_ok-put_map_notices.ensures.steady refl) c.put_empty.ensures.cause;
-  steady = steady_after c.put_empty.result _ _ _ (c.in_ok-put_map_notices.ensures.steady refl) c.put_empty.ensures.steady;
+  added =
+      let first = map_notices c.args.file.now c.args.notes.now in
+      let second = empty_words c.args.file.now c.args.rules.now in
+      adds_then c.put_empty.result c.args.out.now.said _ _ first second c.in_ok-put_notices.ensures.added c.put_empty.ensures.added;
+  cause = cause_after c.put_empty.result _ _ _ (c.in_ok-put_notices.ensures.steady refl) c.put_empty.ensures.cause;
+  steady = steady_after c.put_empty.result _ _ _ (c.in_ok-put_notices.ensures.steady refl) c.put_empty.ensures.steady;
 }
 
-pub returns-in_err-put_map_notices : goal.returns-in_err-put_map_notices
-returns-in_err-put_map_notices g c = record {
-  added = λ kinds table.
-      let map = c.args.map.now in
-      let first = map_notices map.name.now kinds map.text.now in
-      let second = empty_words map.name.now c.args.rules.now in
-      failed c.from_residual.result _ c.args.out.now.said c.put_map_notices.new.out.said (first ++ second) c.from_residual.ensures.1
-      (front_more c.args.out.now.said c.put_map_notices.new.out.said first second (c.in_err-put_map_notices.ensures.added kinds table));
+pub returns-in_err-put_notices : goal.returns-in_err-put_notices
+returns-in_err-put_notices g c = record {
+  added =
+      let first = map_notices c.args.file.now c.args.notes.now in
+      let second = empty_words c.args.file.now c.args.rules.now in
+      failed c.from_residual.result _ c.args.out.now.said c.put_notices.new.out.said (first ++ second) c.from_residual.ensures.1
+      (front_more c.args.out.now.said c.put_notices.new.out.said first second c.in_err-put_notices.ensures.added);
   cause = search rules;
   steady = search rules;
 }
