@@ -241,7 +241,7 @@ plain_six command s n site plain.Refused said six = let is : 3 ≡ 6 = six in ab
 plain_six command s n site plain.Running said six = let is : 4 ≡ 6 = six in absurd (omega (arith, is))
 plain_six command s n site plain.InputFault said six = let is : 4 ≡ 6 = six in absurd (omega (arith, is))
 plain_six command s n site plain.OutputFault said six = let is : 5 ≡ 6 = six in absurd (omega (arith, is))
-plain_six command s n site plain.NoMemory said six = said.1.1.1
+plain_six command s n site plain.NoMemory said six = said.1.1.2
 
 -- an order that asks for workers or threads is a command
 pub served_command : (asked : Result Order WordsError) (o same : Order) → asked ≡ Ok o → o ≡ same → is_served same ≡ true → IsNoCommand asked → ⊥

@@ -6,7 +6,7 @@ use Rattle.jk_io.specs.Told.{prepended}
 use Rattle.jk_io.specs.declared.failures.IoError.{IoError}
 use Rattle.jk_io.specs.declared.failures.IoError.TheVariants as io
 use Rattle.jk_io.specs.declared.failures.NoMemory.{NoMemory}
-use Rattle.plain_commands.specs.Causes.{IsCaused, IsJustCaused}
+use Rattle.plain_commands.specs.Causes.{IsJustCaused}
 use Rattle.plain_commands.specs.Endings.{status_of, IsTooLong, OfAnswer, PrintsOfInput}
 use Rattle.plain_commands.specs.Plain.{MatchesRead, Plain, PrintsOf, Reported, status_if, readings, InputIsDue}
 use Rattle.plain_commands.specs.Printed.{IsPrinted}
@@ -80,12 +80,7 @@ match_ok outside verbose w m workers map first second (Err e) says = tt
 
 -- ---- what is answered to texts that are read, and to one that is too long
 
--- what never fails after a read that was done has the cause of that read
-pub cause_kept : {A B : Type 0} (before now : ℕ) (known : Result A IoError) (result : Result B IoError) → IsCaused before now known
-    → (IsErrOf result io.Failed → ⊥) → IsCaused before now result
-cause_kept before now known result cause never = record { no_fewer = cause.no_fewer; failed = λ failed. absurd (never failed) }
-
--- and after a file that was read
+-- what never fails after a text that was read has the cause of that read
 pub just_kept : {A B : Type 0} (before now : ℕ) (read : A) (result : Result B IoError) → IsJustCaused before now (Ok read)
     → (IsErrOf result io.Failed → ⊥) → IsJustCaused before now result
 just_kept before now read result cause never = record {

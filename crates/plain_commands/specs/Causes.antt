@@ -4,12 +4,7 @@ use Rattle.jk_io.specs.Told.{Rose}
 use Rattle.jk_io.specs.declared.failures.IoError.{IoError}
 use Rattle.jk_io.specs.declared.failures.IoError.TheVariants as io
 
--- the count never falls, and the command failed only where it rose
-pub record IsCaused {T : Type 0} (before now : ℕ) (result : Result T IoError) : Type 0 where
-  pub no_fewer : before ≤ now
-  pub failed : IsErrOf result io.Failed → Rose before now
-
--- the same, and the count stands where the command didn't fail
+-- the count never falls; the command failed only where it rose, and where it didn't fail the count stands
 pub record IsJustCaused {T : Type 0} (before now : ℕ) (result : Result T IoError) : Type 0 where
   pub no_fewer : before ≤ now
   pub failed : IsErrOf result io.Failed → Rose before now

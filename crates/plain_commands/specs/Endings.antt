@@ -53,9 +53,9 @@ pub record Faults : Type 0 where
 abbrev pub ReadFails : (old new : Faults) → Type 0
 ReadFails old new = Rose old.files new.files ⊎ Rose old.input new.input
 
--- No file failed, and no write.
+-- No file failed, nor the input, nor a write.
 abbrev pub NoneFailed : (old new : Faults) → Type 0
-NoneFailed old new = (new.files ≡ old.files) × (new.output ≡ old.output)
+NoneFailed old new = (new.files ≡ old.files) × (new.input ≡ old.input) × (new.output ≡ old.output)
 
 -- All that a command uses, as it is told: what it may read, what its output was sent, and how often each failed.
 pub record PlainSide : Type 0 where
@@ -77,7 +77,7 @@ plain_side of_files of_input of_output files input out = record {
 
 -- A command that is built, by each end, and the site that it judged: just what it prints was written; or a front that was told to
 -- end may still run, or a read failed, and nothing was written; or a write failed, after a front; or memory was wanted, before
--- anything was written or in a write, and no file and no write failed.
+-- anything was written or in a write, and neither a file nor the input nor a write failed.
 abbrev pub AnswersSo : (command : Order) → (s n : PlainSide) → Option SiteFound → PlainEnd → Type 0
 AnswersSo command s n site end.Done = Prints command s.outside s.sent n.sent 0 site
 AnswersSo command s n site end.Bad = Prints command s.outside s.sent n.sent 1 site

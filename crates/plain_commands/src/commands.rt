@@ -2,7 +2,7 @@
 ghost use Rattle.std.specs.Prelude.{◌≡◌, ◌≤◌, ◌⊎◌, [], ◌∷◌, length, Some, None, true, IfOk, IsOk, IsErrOf};
 ghost use Rattle.jk_cli.specs.declared.order.Order.TheVariants as order;
 ghost use Rattle.jk_io.specs.Told.{Rose};
-ghost use Rattle.plain_commands.specs.Causes.{IsCaused, IsJustCaused};
+ghost use Rattle.plain_commands.specs.Causes.{IsJustCaused};
 ghost use Rattle.plain_commands.specs.Endings.{OfAnswer, PlainOfFiles, PlainOfInput, PrintsOfInput, status_of, told_outside};
 ghost use Rattle.plain_commands.specs.Plain.{is_plain, readings, HasFormat, InputIsDue, MatchesRead, Plain, StopsFront};
 ghost use Rattle.site_reports.specs.Readings.{has_file, Input};
@@ -23,7 +23,7 @@ use std::alloc::Global;
 // `play`
 fn play_input<S: Source>(alloc: Global, input: &mut S) -> Result<PlainAnswer, IoError>
     ensures ok { IfOk result (λ o. PlainOfInput (S.incoming input.old) order.Play o) }
-    ensures cause { IsCaused (S.faults input.old) (S.faults input.new) result }
+    ensures cause { IsJustCaused (S.faults input.old) (S.faults input.new) result }
 {
     match read_input(alloc, input)? {
         None => too_long(alloc),
@@ -34,7 +34,7 @@ fn play_input<S: Source>(alloc: Global, input: &mut S) -> Result<PlainAnswer, Io
 // `check`
 fn check_input<S: Source>(alloc: Global, input: &mut S) -> Result<PlainAnswer, IoError>
     ensures ok { IfOk result (λ o. PlainOfInput (S.incoming input.old) order.Check o) }
-    ensures cause { IsCaused (S.faults input.old) (S.faults input.new) result }
+    ensures cause { IsJustCaused (S.faults input.old) (S.faults input.new) result }
 {
     match read_input(alloc, input)? {
         None => too_long(alloc),
@@ -45,7 +45,7 @@ fn check_input<S: Source>(alloc: Global, input: &mut S) -> Result<PlainAnswer, I
 // `follow`
 fn follow_input<S: Source>(alloc: Global, input: &mut S) -> Result<PlainAnswer, IoError>
     ensures ok { IfOk result (λ o. PlainOfInput (S.incoming input.old) order.Follow o) }
-    ensures cause { IsCaused (S.faults input.old) (S.faults input.new) result }
+    ensures cause { IsJustCaused (S.faults input.old) (S.faults input.new) result }
 {
     match read_input(alloc, input)? {
         None => too_long(alloc),
@@ -110,7 +110,7 @@ fn match_input<S: Source>(
 ) -> Result<PlainAnswer, IoError>
     requires short { (length workers ≤ MAX_INPUT_BYTES) × (length map ≤ MAX_INPUT_BYTES) }
     ensures ok { IfOk result (λ o. PrintsOfInput (S.incoming input.old) (Input ∷ []) (MatchesRead workers map verbose) o) }
-    ensures cause { IsCaused (S.faults input.old) (S.faults input.new) result }
+    ensures cause { IsJustCaused (S.faults input.old) (S.faults input.new) result }
 {
     match read_input(alloc, input)? {
         None => too_long(alloc),
@@ -130,8 +130,8 @@ fn match_paths<F: Files, S: Source>(
     ensures ok { IfOk result (OfAnswer (Plain (told_outside F.Files S.Meanings files.old input.old)
         (order.Match workers.now map.now verbose))) }
     ensures failed { IsErrOf result IoError.Failed → Rose (F.faults files.old) (F.faults files.new) ⊎ Rose (S.faults input.old) (S.faults input.new) }
-    ensures wanted { IsErrOf result IoError.NoMemory → F.faults files.new ≡ F.faults files.old }
-    ensures steady { IsOk result → F.faults files.new ≡ F.faults files.old }
+    ensures wanted { IsErrOf result IoError.NoMemory → (F.faults files.new ≡ F.faults files.old) × (S.faults input.new ≡ S.faults input.old) }
+    ensures steady { IsOk result → (F.faults files.new ≡ F.faults files.old) × (S.faults input.new ≡ S.faults input.old) }
     ensures input { (input.new ≡ input.old)
         ⊎ InputIsDue (told_outside F.Files S.Meanings files.old input.old) (order.Match workers.now map.now verbose) }
 {
@@ -177,8 +177,8 @@ pub(crate) fn answer<F: Files, S: Source>(
     requires built { is_plain order.now ≡ true }
     ensures ok { IfOk result (OfAnswer (Plain (told_outside F.Files S.Meanings files.old input.old) order.now)) }
     ensures failed { IsErrOf result IoError.Failed → Rose (F.faults files.old) (F.faults files.new) ⊎ Rose (S.faults input.old) (S.faults input.new) }
-    ensures wanted { IsErrOf result IoError.NoMemory → F.faults files.new ≡ F.faults files.old }
-    ensures steady { IsOk result → F.faults files.new ≡ F.faults files.old }
+    ensures wanted { IsErrOf result IoError.NoMemory → (F.faults files.new ≡ F.faults files.old) × (S.faults input.new ≡ S.faults input.old) }
+    ensures steady { IsOk result → (F.faults files.new ≡ F.faults files.old) × (S.faults input.new ≡ S.faults input.old) }
     ensures files { (files.new ≡ files.old) ⊎ (has_file (readings order.now) ≡ true) }
     ensures format { (files.new ≡ files.old) ⊎ HasFormat order.now }
     ensures input { (input.new ≡ input.old) ⊎ InputIsDue (told_outside F.Files S.Meanings files.old input.old) order.now }

@@ -1,7 +1,7 @@
 //! Reading the texts of a command, each whole.
 ghost use Rattle.std.specs.Prelude.{◌≡◌, ◌<◌, ◌≤◌, [], ◌∷◌, Some, length, IfOk, IfSome, IfNone, IsSomeAnd};
 ghost use Rattle.jk_io.specs.Stored.{content_of};
-ghost use Rattle.plain_commands.specs.Causes.{IsCaused, IsJustCaused};
+ghost use Rattle.plain_commands.specs.Causes.{IsJustCaused};
 ghost use Rattle.site_reports.specs.Readings.{AreRead, File, OfFiles, StopsLong};
 ghost use Rattle.jk_io.specs.declared.whole_input.TheConstants.{MAX_INPUT_BYTES};
 
@@ -56,7 +56,7 @@ pub(crate) fn read_input<S: Source>(alloc: Global, input: &mut S) -> Result<Opti
     ensures there { IfOk result (λ read. IfSome read (λ text. IfSome (S.incoming input.old) (λ all. text ≡ all))) }
     ensures short { IfOk result (λ read. IfSome read (λ text. length text ≤ MAX_INPUT_BYTES)) }
     ensures long { IfOk result (λ read. IfNone read (IfSome (S.incoming input.old) (λ all. MAX_INPUT_BYTES < length all))) }
-    ensures cause { IsCaused (S.faults input.old) (S.faults input.new) result }
+    ensures cause { IsJustCaused (S.faults input.old) (S.faults input.new) result }
 {
     match read_whole(alloc, input) {
         Ok(text) => Ok(Some(text)),

@@ -5,7 +5,7 @@ use Rattle.plain_commands.specs.Plain.{AnswersOrder}
 use Rattle.jk_cli.specs.declared.order.Order.TheVariants as order
 use Rattle.site_reports.specs.Readings.{Input}
 use Rattle.plain_commands.specs.declared.play.Output.{Output}
-use Rattle.plain_commands.proofs.PlainLemmas.{cause_kept, long_ok}
+use Rattle.plain_commands.proofs.PlainLemmas.{just_kept, long_ok}
 use Rattle.plain_commands.proofs.commands.check_input.Goals as goal
 
 pub returns-in_ok-check-in-Some-clause-ok : goal.returns-in_ok-check-in-Some-clause-ok
@@ -25,4 +25,4 @@ returns-in-None-clause-ok g c =
     (λ files. inl (rw c.in-None.is at c.in_ok-read_input.ensures.long))
 
 pub returns-in-None-clause-cause : goal.returns-in-None-clause-cause
-returns-in-None-clause-cause g c = cause_kept _ _ _ _ c.read_input.ensures.cause c.too_long.ensures.failed
+returns-in-None-clause-cause g c = just_kept _ _ _ _ c.in_ok-read_input.ensures.cause c.too_long.ensures.failed

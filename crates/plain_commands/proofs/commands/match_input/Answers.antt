@@ -3,7 +3,7 @@ use Rattle.plain_commands.specs.Plain.{MatchesRead}
 use Rattle.site_reports.specs.Found.{FindsSite}
 use Rattle.site_reports.specs.Readings.{Input}
 use Rattle.site_reports.specs.Reports.{ReportsMatches}
-use Rattle.plain_commands.proofs.PlainLemmas.{cause_kept, long_ok, printed_ok, read_ok}
+use Rattle.plain_commands.proofs.PlainLemmas.{just_kept, long_ok, printed_ok, read_ok}
 use Rattle.plain_commands.proofs.commands.match_input.Goals as goal
 
 pub returns-in-None-clause-ok : goal.returns-in-None-clause-ok
@@ -12,7 +12,7 @@ returns-in-None-clause-ok g c =
     (λ files. inl (rw c.in-None.is at c.in_ok-read_input.ensures.long))
 
 pub returns-in-None-clause-cause : goal.returns-in-None-clause-cause
-returns-in-None-clause-cause g c = cause_kept _ _ _ _ c.read_input.ensures.cause c.too_long.ensures.failed
+returns-in-None-clause-cause g c = just_kept _ _ _ _ c.in_ok-read_input.ensures.cause c.too_long.ensures.failed
 
 pub returns-in-Some-clause-ok : goal.returns-in-Some-clause-ok
 returns-in-Some-clause-ok g c =
@@ -22,4 +22,4 @@ returns-in-Some-clause-ok g c =
     c.report_matches.ensures.found (rw c.as_slice.ensures at c.report_matches.ensures.text) c.printed.ensures.ok)
 
 pub returns-in-Some-clause-cause : goal.returns-in-Some-clause-cause
-returns-in-Some-clause-cause g c = cause_kept _ _ _ _ c.read_input.ensures.cause c.printed.ensures.failed
+returns-in-Some-clause-cause g c = just_kept _ _ _ _ c.in_ok-read_input.ensures.cause c.printed.ensures.failed
