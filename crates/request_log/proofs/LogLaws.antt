@@ -1,9 +1,11 @@
 -- A log that is written row by row, after one row: a line more, or a front of one, and then it is broken.
-use Rattle.std.proofs.Common.{◌≡◌, [], ◌∷◌, Option, Some, None, Ok, Err, false, true≢false, refl, sym, ap, ◌∙◌}
+use Rattle.std.proofs.Common.{ℕ, ◌≡◌, ◌≤◌, [], ◌∷◌, Option, Some, None, Err, false, true≢false, refl, sym, ap, subst, ◌∙◌}
 use Rattle.std.proofs.lemmas.List.{append-nil}
+use Rattle.std.proofs.Math.Nat.{le_refl}
 use Rattle.std.specs.Option.{is_some as has_some}
 use Rattle.jk_io.specs.Told.{appended, HasCause, PutsFront}
 use Rattle.jk_io.specs.declared.failures.IoError.{IoError}
+use Rattle.jk_io.specs.declared.failures.IoError.TheVariants as io
 use Rattle.jk_io.specs.declared.traits.streams.Meanings.{Ghosts}
 use Rattle.lb_model.specs.declared.served.Served.{Served}
 use Rattle.request_log.specs.declared.seen.Seen.{Seen}
@@ -19,8 +21,8 @@ is_none (Some error) some = absurd (true≢false some)
 pub puts_row : {G X : Type 0} (told : Ghosts G X) (s t : LogState G) (row : Served) (seen : Seen)
     → s.broken ≡ None → t.format ≡ s.format → t.addr ≡ s.addr → t.broken ≡ s.broken → seen.addr ≡ s.addr
     → told.sent t.sink ≡ appended (told.sent s.sink) (line_of s.format row seen)
-    → HasCause {T = Unit {0}} (told.faults s.sink) (told.faults t.sink) (Ok tt) → GainsRows told s (row ∷ []) t
-puts_row told s t row seen none format addr same seen_addr put cause = record {
+    → told.faults t.sink ≡ told.faults s.sink → GainsRows told s (row ∷ []) t
+puts_row told s t row seen none format addr same seen_addr put steady = record {
   same_format = format;
   same_addr = addr;
   adds = λ _. record {
@@ -33,9 +35,15 @@ puts_row told s t row seen none format addr same seen_addr put cause = record {
     whole = λ _. refl;
   };
   over = λ some. absurd (not_both none some);
-  no_fewer = cause.no_fewer;
+  no_fewer = subst (λ (n : ℕ). told.faults s.sink ≤ n) (sym steady) (le_refl _);
   failed = λ _ failed. absurd (not_both (same ∙ none) (is_some failed));
+  calm = λ _ _. steady;
 }
+
+-- what didn't fail wanted memory
+wanted_only : (error : IoError) (before now : ℕ) → HasCause {T = Unit {0}} before now (Err error) → (error ≡ io.Failed → ⊥) → now ≡ before
+wanted_only io.Failed before now cause sound = absurd (sound refl)
+wanted_only io.NoMemory before now cause sound = cause.wanted refl
 
 -- a front of a row's line was written, and the log is broken
 pub breaks_row : {G X : Type 0} (told : Ghosts G X) (s t : LogState G) (row : Served) (seen : Seen) (error : IoError)
@@ -57,4 +65,5 @@ breaks_row told s t row seen error none format addr broken seen_addr put cause =
   over = λ some. absurd (not_both none some);
   no_fewer = cause.no_fewer;
   failed = λ _ failed. cause.failed (ap Err (cc));
+  calm = λ _ sound. wanted_only error _ _ cause (λ is. sound (broken ∙ ap Some is));
 }

@@ -70,9 +70,10 @@ gains_nothing told s = record {
     put = sym (appended-nil _);
     whole = λ _. refl;
   };
-  over = λ _. (refl, refl);
+  over = λ _. (refl, refl, refl);
   no_fewer = le_refl _;
   failed = λ none failed. absurd (not_both none (is_some failed));
+  calm = λ _ _. refl;
 }
 
 -- the second rows follow the first, unless the log broke before them
@@ -116,12 +117,22 @@ fails_on told s t u xs ys (Some error) is first then none failed =
     let rose = first.failed none (sym over.0 ∙ failed) in
     Rose-within (told.faults s.sink) (told.faults s.sink) (told.faults t.sink) (told.faults u.sink) (le_refl _) rose then.no_fewer
 
+-- No fault broke it, so it had none before either.
+calm_on : {G X : Type 0} (told : Ghosts G X) (s t u : LogState G) (xs ys : List Served) (broken : Option IoError) → t.broken ≡ broken
+    → GainsRows told s xs t → GainsRows told t ys u → s.broken ≡ None → (u.broken ≡ Some io.Failed → ⊥) → told.faults u.sink ≡ told.faults s.sink
+calm_on told s t u xs ys None is first then none sound =
+    then.calm is sound ∙ first.calm none (λ failed. not_both is (is_some failed))
+calm_on told s t u xs ys (Some error) is first then none sound =
+    let over = then.over (is_some is) in
+    over.2 ∙ first.calm none (λ failed. sound (over.0 ∙ failed))
+
 over_on : {G X : Type 0} (told : Ghosts G X) (s t u : LogState G) (xs ys : List Served)
-    → GainsRows told s xs t → GainsRows told t ys u → IsSome s.broken → (u.broken ≡ s.broken) × (told.sent u.sink ≡ told.sent s.sink)
+    → GainsRows told s xs t → GainsRows told t ys u → IsSome s.broken
+    → (u.broken ≡ s.broken) × (told.sent u.sink ≡ told.sent s.sink) × (told.faults u.sink ≡ told.faults s.sink)
 over_on told s t u xs ys first then some =
     let a = first.over some in
     let b = then.over (subst IsSome (sym a.0) some) in
-    (b.0 ∙ a.0, b.1 ∙ a.1)
+    (b.0 ∙ a.0, b.1 ∙ a.1, b.2 ∙ a.2)
 
 pub gains_on : {G X : Type 0} (told : Ghosts G X) (s t u : LogState G) (xs ys : List Served)
     → GainsRows told s xs t → GainsRows told t ys u → GainsRows told s (xs ++ ys) u
@@ -132,4 +143,5 @@ gains_on told s t u xs ys first then = record {
   over = over_on told s t u xs ys first then;
   no_fewer = le_trans first.no_fewer then.no_fewer;
   failed = fails_on told s t u xs ys t.broken refl first then;
+  calm = calm_on told s t u xs ys t.broken refl first then;
 }

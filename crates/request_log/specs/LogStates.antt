@@ -26,14 +26,16 @@ pub record AddsLog {G X : Type 0} (told : Ghosts G X) (s : LogState G) (rows : L
   pub put : told.sent t.sink ≡ appended (told.sent s.sink) front
   pub whole : t.broken ≡ None → rest ≡ []
 
--- Rows were put. What is broken stays so, and gains nothing more; it broke by a fault only where the sink's faults rose.
+-- Rows were put. What is broken stays so, gains nothing more and has no more faults; it broke by a fault only where the sink's
+-- faults rose, and where it didn't they stand.
 pub record GainsRows {G X : Type 0} (told : Ghosts G X) (s : LogState G) (rows : List Served) (t : LogState G) : Type 0 where
   pub same_format : t.format ≡ s.format
   pub same_addr : t.addr ≡ s.addr
   pub adds : s.broken ≡ None → AddsLog told s rows t
-  pub over : IsSome s.broken → (t.broken ≡ s.broken) × (told.sent t.sink ≡ told.sent s.sink)
+  pub over : IsSome s.broken → (t.broken ≡ s.broken) × (told.sent t.sink ≡ told.sent s.sink) × (told.faults t.sink ≡ told.faults s.sink)
   pub no_fewer : told.faults s.sink ≤ told.faults t.sink
   pub failed : s.broken ≡ None → t.broken ≡ Some io.Failed → Rose (told.faults s.sink) (told.faults t.sink)
+  pub calm : s.broken ≡ None → (t.broken ≡ Some io.Failed → ⊥) → told.faults t.sink ≡ told.faults s.sink
 
 -- what broke it first; else want of memory
 abbrev pub broken_now : Option IoError → Option IoError

@@ -1,5 +1,5 @@
 //! A log that is written row by row, as each request ends.
-ghost use Rattle.std.specs.Prelude.{◌≡◌, ◌/◌, ◌≤◌, None, [], OnOk, OnErr, IfSome, IfNone};
+ghost use Rattle.std.specs.Prelude.{◌≡◌, ◌/◌, ◌≤◌, None, [], IsOk, OnOk, OnErr, IfSome, IfNone};
 ghost use Rattle.jk_io.specs.Told.{HasCause, PutsFront, appended};
 ghost use Rattle.httpdate.specs.Date.{unix_secs};
 ghost use Rattle.request_log.specs.Lines.{between, line_of};
@@ -142,6 +142,7 @@ fn write_row<G: Sink>(
     ensures put { OnOk result (G.sent sink.new ≡ appended (G.sent sink.old) (line_of format.now row.now seen.now)) }
     ensures front { OnErr result (PutsFront (G.sent sink.old) (G.sent sink.new) (line_of format.now row.now seen.now)) }
     ensures cause { HasCause (G.faults sink.old) (G.faults sink.new) result }
+    ensures steady { IsOk result → G.faults sink.new ≡ G.faults sink.old }
 {
     line.clear();
     put_line(line, format, row, seen)?;

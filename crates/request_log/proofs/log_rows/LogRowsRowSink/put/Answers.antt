@@ -13,4 +13,4 @@ pub returns : goal.returns
 returns g c =
     let seen : Seen = record { addr = c.self.inside.seen.addr; at = c.self.inside.seen.at; took = c.between-self-inside.result } in
     let none = is_none c.self.inside.broken (sym c.is_some.ensures ∙ c.if-is_some.false) in
-    rw (← c.self.view_is) (puts_row g.G.Meanings _ _ c.args.row seen none refl refl refl refl c.in_default.ensures.put c.in_default.ensures.cause)
+    rw (← c.self.view_is) (puts_row g.G.Meanings _ _ c.args.row seen none refl refl refl refl c.in_default.ensures.put (c.in_default.ensures.steady refl))
