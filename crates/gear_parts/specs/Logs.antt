@@ -21,3 +21,7 @@ log_tells gained greets broken_by faults = record { gained = gained; greets = gr
 -- A log that is broken by a fault now was so before, or the faults rose.
 abbrev pub BreaksLoudly : (before after : Option IoError) → (faults faults' : ℕ) → Type 0
 BreaksLoudly before after faults faults' = after ≡ Some io.Failed → (before ≡ Some io.Failed) ⊎ Rose faults faults'
+
+-- Where a log isn't broken by a fault now, its faults stand.
+abbrev pub BreaksCalmly : (after : Option IoError) → (faults faults' : ℕ) → Type 0
+BreaksCalmly after faults faults' = (after ≡ Some io.Failed → ⊥) → faults' ≡ faults

@@ -79,7 +79,7 @@ impl<'f, O: Timed> RowSink for GearLog<'f, O> {
 
 impl<'f, O: Timed> WorkerLog for GearLog<'f, O> {
     ghost use Rattle.gear_parts.specs.GearLogs.{GreetsIf, broken_by, log_faults};
-    ghost use Rattle.gear_parts.specs.GearLogRules.{breaks_loudly};
+    ghost use Rattle.gear_parts.specs.GearLogRules.{breaks_calmly, breaks_loudly};
 
     ghost greets = { λ s peer t. GreetsIf s peer t };
 
@@ -88,6 +88,8 @@ impl<'f, O: Timed> WorkerLog for GearLog<'f, O> {
     ghost log_faults = { λ s. log_faults O.faults s };
 
     ghost breaks_loudly = { breaks_loudly O.Meanings };
+
+    ghost breaks_calmly = { breaks_calmly O.Meanings };
 
     fn greet(&mut self, peer: &Peer) {
         if let Some(rows) = &mut self.rows {

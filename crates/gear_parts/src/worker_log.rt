@@ -1,6 +1,6 @@
 //! Where a worker puts the rows of its requests: a log, or nowhere.
 ghost use Rattle.std.specs.Prelude.{◌≡◌, ℕ, List, Option, None, Some};
-ghost use Rattle.gear_parts.specs.Logs.{BreaksLoudly};
+ghost use Rattle.gear_parts.specs.Logs.{BreaksCalmly, BreaksLoudly};
 
 use jk_io::{IoError, Peer};
 use lb_model::RowSink;
@@ -8,7 +8,7 @@ use lb_model::RowSink;
 /// A sink of rows that is told whose requests they are, and that may break.
 pub trait WorkerLog: RowSink {
     ghost use Rattle.std.specs.Prelude.{◌≡◌, ℕ, List, Option, None, Some};
-    ghost use Rattle.gear_parts.specs.Logs.{BreaksLoudly};
+    ghost use Rattle.gear_parts.specs.Logs.{BreaksCalmly, BreaksLoudly};
     ghost use Rattle.jk_io.specs.declared.failures.IoError.{IoError as AnyError};
     ghost use Rattle.jk_io.specs.declared.failures.IoError.TheVariants as io;
     ghost use Rattle.jk_io.specs.declared.traits.surroundings.Peer.{Peer as AnyPeer};
@@ -36,4 +36,8 @@ pub trait WorkerLog: RowSink {
     // a row breaks it by a fault only where the faults rose
     ghost breaks_loudly: { (s t : Self) (rows : List AnyServed) → Self.gained s rows t
         → BreaksLoudly (broken_by s) (broken_by t) (log_faults s) (log_faults t) };
+
+    // want of memory, or a log that isn't broken, hides no fault
+    ghost breaks_calmly: { (s t : Self) (rows : List AnyServed) → Self.gained s rows t
+        → BreaksCalmly (broken_by t) (log_faults s) (log_faults t) };
 }

@@ -166,23 +166,24 @@ rose_loud was before now faults faults' sound calm loud broke = rose_of was befo
 -- A worker after its session, by the error that broke its log.
 pub settles_so : {S Y L : Type 0} → (of : WorkerTells S Y) (from to : WorkerSide S Y) (n : SharedState S) (end : SessionEnd) (broken : Option IoError) (settled' : Option (WorkerEnd L))
     → of.log.broken_by to.log ≡ broken → (broken ≡ Some io.Failed → Rose (of.log.faults from.log) (of.log.faults to.log))
+    → ((of.log.broken_by to.log ≡ Some io.Failed → ⊥) → of.log.faults to.log ≡ of.log.faults from.log)
     → SettlesBy broken of.shelf_faults from.desk to.desk n end.stop settled' → Settles of from to n end settled'
-settles_so of from to n end None None is loud by = (record { desk = by.0; logged = is }, by.1)
-settles_so of from to n end None (Some (worker.Closed sessions)) is loud by = absurd by.0
-settles_so of from to n end None (Some worker.DoorFault) is loud by = absurd by.0
-settles_so of from to n end None (Some worker.ShelfFault) is loud by = ((λ failed. none_or_some _ is failed, by.0), by.1)
-settles_so of from to n end None (Some worker.LogFault) is loud by = absurd by.0
-settles_so of from to n end None (Some (worker.Stray stray)) is loud by = ((is, by.0), by.1)
-settles_so of from to n end None (Some worker.NoMemory) is loud by = (inr (is, by.0), by.1)
-settles_so {L = L} of from to n end (Some io.Failed) settled' is loud by =
+settles_so of from to n end None None is loud calm by = (record { desk = by.0; logged = is; steady = calm (λ failed. none_or_some _ is failed) }, by.1)
+settles_so of from to n end None (Some (worker.Closed sessions)) is loud calm by = absurd by.0
+settles_so of from to n end None (Some worker.DoorFault) is loud calm by = absurd by.0
+settles_so of from to n end None (Some worker.ShelfFault) is loud calm by = ((λ failed. none_or_some _ is failed, by.0), by.1)
+settles_so of from to n end None (Some worker.LogFault) is loud calm by = absurd by.0
+settles_so of from to n end None (Some (worker.Stray stray)) is loud calm by = ((is, by.0), by.1)
+settles_so of from to n end None (Some worker.NoMemory) is loud calm by = ((inr (is, by.0), calm (λ failed. none_or_some _ is failed)), by.1)
+settles_so {L = L} of from to n end (Some io.Failed) settled' is loud calm by =
     subst (λ (e : Option (WorkerEnd L)). Settles of from to n end e) (sym by.0) ((is, loud refl), by.1)
-settles_so of from to n end (Some io.NoMemory) None is loud by = absurd by
-settles_so of from to n end (Some io.NoMemory) (Some (worker.Closed sessions)) is loud by = absurd by.0
-settles_so of from to n end (Some io.NoMemory) (Some worker.DoorFault) is loud by = absurd by.0
-settles_so of from to n end (Some io.NoMemory) (Some worker.ShelfFault) is loud by = ((λ failed. not_both _ is failed, by.0), by.1)
-settles_so of from to n end (Some io.NoMemory) (Some worker.LogFault) is loud by = absurd by.0
-settles_so of from to n end (Some io.NoMemory) (Some (worker.Stray stray)) is loud by = absurd by.0
-settles_so of from to n end (Some io.NoMemory) (Some worker.NoMemory) is loud by = (inl (is, by.0), by.1)
+settles_so of from to n end (Some io.NoMemory) None is loud calm by = absurd by
+settles_so of from to n end (Some io.NoMemory) (Some (worker.Closed sessions)) is loud calm by = absurd by.0
+settles_so of from to n end (Some io.NoMemory) (Some worker.DoorFault) is loud calm by = absurd by.0
+settles_so of from to n end (Some io.NoMemory) (Some worker.ShelfFault) is loud calm by = ((λ failed. not_both _ is failed, by.0), by.1)
+settles_so of from to n end (Some io.NoMemory) (Some worker.LogFault) is loud calm by = absurd by.0
+settles_so of from to n end (Some io.NoMemory) (Some (worker.Stray stray)) is loud calm by = absurd by.0
+settles_so of from to n end (Some io.NoMemory) (Some worker.NoMemory) is loud calm by = ((inl (is, by.0), calm (λ failed. not_both _ is failed)), by.1)
 
 -- a desk that forgot its receipts, part by part
 pub desk_forgot : {S : Type 0} (d n : SharedState S) → n.desk ≡ record d.desk { receipts = [] } → n.forgotten ≡ d.forgotten + length d.desk.receipts

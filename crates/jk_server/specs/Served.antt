@@ -87,10 +87,11 @@ DeskEnds faults from to end (worker.Stray stray) =
 DeskEnds faults from to end worker.NoMemory =
     ((end ≡ stop.NoMemory) ⊎ (from.wants < to.wants)) × (faults to.shelf ≡ faults from.shelf) × (IsStray end → ⊥)
 
--- A worker goes on, if its log took each row besides.
+-- A worker goes on, if its log took each row besides, and never failed.
 pub record WorkerGoesOn {S Y : Type 0} (of : WorkerTells S Y) (from to : WorkerSide S Y) (end : SessionEnd) : Type 0 where
   pub desk : DeskGoesOn of.shelf_faults from.desk to.desk end.stop
   pub logged : of.log.broken_by to.log ≡ None
+  pub steady : of.log.faults to.log ≡ of.log.faults from.log
 
 -- Why a worker ended right after a session. A log that broke goes before what its desk says, since it alone leaves rows out, but
 -- one that wanted memory goes after a fault of the shelf.
@@ -103,8 +104,9 @@ EndsAfter of from to end worker.LogFault = (of.log.broken_by to.log ≡ Some io.
 EndsAfter {L = L} of from to end (worker.Stray stray) =
     (of.log.broken_by to.log ≡ None) × DeskEnds {L = L} of.shelf_faults from.desk to.desk end.stop (worker.Stray stray)
 EndsAfter {L = L} of from to end worker.NoMemory =
-    ((of.log.broken_by to.log ≡ Some io.NoMemory) × (of.shelf_faults to.desk.shelf ≡ of.shelf_faults from.desk.shelf))
-    ⊎ ((of.log.broken_by to.log ≡ None) × DeskEnds {L = L} of.shelf_faults from.desk to.desk end.stop worker.NoMemory)
+    (((of.log.broken_by to.log ≡ Some io.NoMemory) × (of.shelf_faults to.desk.shelf ≡ of.shelf_faults from.desk.shelf))
+    ⊎ ((of.log.broken_by to.log ≡ None) × DeskEnds {L = L} of.shelf_faults from.desk to.desk end.stop worker.NoMemory))
+    × (of.log.faults to.log ≡ of.log.faults from.log)
 
 -- the desk once its worker ended; a stray that the worker took is no more with the desk
 abbrev pub left_by : {S L : Type 0} → WorkerEnd L → SharedState S → SharedState S

@@ -24,7 +24,8 @@ returns g c =
     let forgets = ap (λ d. d.desk) c.forget_last-before.ensures.desk in
     let loud = rose_loud _ _ _ _ _ c.requires.ready.logged c.greet.ensures.calm
     (g.met.Y.WorkerLog.breaks_loudly _ _ e.ran.gained e.ran.added) in
-    let settles = settles_so of from to c.close_client.new.part.desk s.result _ c.close_client.result refl loud
+    let calm = g.met.Y.WorkerLog.breaks_calmly _ _ e.ran.gained e.ran.added in
+    let settles = settles_so of from to c.close_client.new.part.desk s.result _ c.close_client.result refl loud calm
     (c.close_client.ensures.settled c.forget_last-before.new.desk c.forget_last-before.ensures.counted.0 c.forget_last-before.ensures.counted.1
     s.ensures.shelf.no_fewer s.ensures.shelf.no_less) in
     record {
