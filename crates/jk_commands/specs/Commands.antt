@@ -48,6 +48,6 @@ DoesAsked told o before after ended =
     OfFiles (told.files before.0) (λ outside. DoesOrder told.world outside o (command_side told before) (command_side told after) ended)
 
 -- What such an order hands on of a site, by the status with which it ended: `serve` what it refused, and the others nothing.
-abbrev pub HandsOnOrder : (files : Option (List (List ℕ × List ℕ))) → Order → (status : ℕ) → Option SiteFound → Type 0
-HandsOnOrder files (order.Serve o) status site = HandsOnSite files o status site
-HandsOnOrder files other status site = site ≡ None
+abbrev pub HandsOnOrder : {F O W G C S Y X Z : Type 0} → CommandTells F O W G C S Y X Z → Order → (before after : F × O × W) → (status : ℕ) → Option SiteFound → Type 0
+HandsOnOrder told (order.Serve o) before after status site = HandsOnSite told o before after status site
+HandsOnOrder told other before after status site = site ≡ None

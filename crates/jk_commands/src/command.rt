@@ -67,7 +67,8 @@ where
         o (files.old, out.old, world.old) (files.new, out.new, world.new) result.0) }
 
     // Of files that `serve` refused what it found of them is handed on; the others have no site.
-    ensures refused { IfServed asked.now (λ o. HandsOnOrder (F.files files.old) o (status_of result.0) result.1) }
+    ensures refused { IfServed asked.now (λ o. HandsOnOrder (telling F.Files O.Meanings ⟦<W as ToldWorld>⟧.told)
+        o (files.old, out.old, world.old) (files.new, out.new, world.new) (status_of result.0) result.1) }
 
     // Any other order: a plain command, or none. The world isn't asked.
     ensures plain { IfPlain asked.now (λ o. let at = plain_side F.Files S.Meanings O.Meanings in

@@ -8,7 +8,7 @@ use Rattle.site_reports.specs.Readings.{CommandOutside}
 use Rattle.site_reports.specs.Sites.{IsFoundRefused}
 use Rattle.site_reports.specs.declared.found.AcceptedSite.{AcceptedSite}
 use Rattle.site_reports.specs.declared.found.SiteFound.{SiteFound}
-use Rattle.jk_server.specs.Commands.{CommandSide, ContainsLinks, Failed, HandsOn, KeepsOutput, LacksLog, RunsContainer, ServesFiles, Unjudged, Unread, Works, NoGear, NoRoom}
+use Rattle.jk_server.specs.Commands.{CommandSide, ContainsLinks, HandsOn, KeepsOutput, LacksLog, RunsContainer, ServesFiles, Undone, Unjudged, Unread, Works, NoGear, NoRoom}
 use Rattle.request_log.specs.declared.format.Part.{Part as FormatPart}
 use Rattle.jk_server.specs.Ends.{end_by, status_of}
 use Rattle.gear_parts.specs.Wants.{GearWants}
@@ -106,14 +106,17 @@ shown_side s m site handed back out shown faults =
     let same : side_of m.handed m.back m.out m.shown m.faults ≡ shown_to s site = rw (handed, back, out, shown, faults) refl in
     same
 
--- by an error of the files nothing is refused
-pub unread_hands_on : {L : Type 0} (outside : CommandOutside) (workers map text : List ℕ) (e : IoError) (ended : CommandEnd L) (site : Option SiteFound)
-    → ended ≡ end_by e → site ≡ None → HandsOn outside workers map text (status_of ended) site
-unread_hands_on outside workers map text io.Failed ended site is none = rw (is, none) (Failed (inl refl))
-unread_hands_on outside workers map text io.NoMemory ended site is none = rw (is, none) (Failed (inr refl))
+-- by an error of the files nothing is done, and no site is handed on
+pub unread_hands_on : {G L T : Type 0} (outside : CommandOutside) (workers map text : List ℕ) (s n : CommandSide G) (e : IoError) (ended : CommandEnd L) (site : Option SiteFound)
+    → HasCause {T = T} s.file_faults n.file_faults (Err e) → ended ≡ end_by e → KeepsOutput s n → n.world ≡ s.world → site ≡ None
+    → HandsOn outside workers map text s n (status_of ended) site
+unread_hands_on outside workers map text s n io.Failed ended site cause is output world none =
+    rw (is, none) (Undone (record { why = inl (refl, cause.failed refl); output = output; world = world }))
+unread_hands_on outside workers map text s n io.NoMemory ended site cause is output world none =
+    rw (is, none) (Undone (record { why = inr (refl, cause.wanted refl); output = output; world = world }))
 
 -- files that are refused
-pub refused_hands_on : (outside : CommandOutside) (workers map text : List ℕ) (status : ℕ) (site : Option SiteFound)
-    → IsFoundRefused outside workers map site → HandsOn outside workers map text status site
-refused_hands_on outside workers map text status None is = Unjudged is
-refused_hands_on outside workers map text status (Some f) is = is
+pub refused_hands_on : {G : Type 0} (outside : CommandOutside) (workers map text : List ℕ) (s n : CommandSide G) (status : ℕ) (site : Option SiteFound)
+    → IsFoundRefused outside workers map site → HandsOn outside workers map text s n status site
+refused_hands_on outside workers map text s n status None is = Unjudged is
+refused_hands_on outside workers map text s n status (Some f) is = is

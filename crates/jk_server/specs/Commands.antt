@@ -170,11 +170,12 @@ Writes status sent sent_now faults faults_now text ended =
 abbrev pub WritesLine : {L : Type 0} → (sent sent_now : Option (List ℕ)) → (faults faults_now : ℕ) → (line : List ℕ) → CommandEnd L → Type 0
 WritesLine sent sent_now faults faults_now line ended = Writes 3 sent sent_now faults faults_now line ended
 
--- The files are refused, and the line that `config` prints of them was written.
+-- The files were read, and are refused: the line that `config` prints of them was written.
 pub record RefusesFiles {G L : Type 0} (outside : CommandOutside) (workers map : List ℕ) (s n : CommandSide G) (ended : CommandEnd L) : Type 0 where
   pub line : List ℕ
   pub refused : RefusesSite outside workers map line
   pub written : WritesLine s.sent n.sent s.output_faults n.output_faults line ended
+  pub read : n.file_faults ≡ s.file_faults
   pub world : n.world ≡ s.world
 
 -- The files couldn't be read, and nothing was done.
@@ -183,10 +184,12 @@ pub record LacksFiles {G L : Type 0} (s n : CommandSide G) (ended : CommandEnd L
   pub output : KeepsOutput s n
   pub world : n.world ≡ s.world
 
--- The files are a site. The world was shown it and no other, and then this many workers were wanted. Nothing was written.
+-- The files were read, and are a site. The world was shown it and no other, and then this many workers were wanted. Nothing was
+-- written.
 pub record ServesSite {W G C S O X Z L : Type 0} (told : Tells W G C S O X Z) (outside : CommandOutside) (workers map : List ℕ) (format : List FormatPart) (threads : ℕ) (wanted : GearWants) (s n : CommandSide G) (ended : CommandEnd L) : Type 0 where
   pub site : AcceptedSite
   pub is : IsFound outside workers map (found.Site site)
+  pub read : n.file_faults ≡ s.file_faults
   pub shown : n.world.shown ≡ appended s.world.shown (site ∷ [])
   pub works : Works threads (RunsLogged told site.workers.config site.rules format threads wanted) (shown_to s.world site) n.world ended
   pub output : KeepsOutput s n
@@ -224,18 +227,23 @@ pub data DoesServe {W G C S O X Z L : Type 0} (told : Tells W G C S O X Z) (outs
   Formatted : (format : List FormatPart) → IsFormat text format → ServesFiles told outside workers map format threads wanted s n ended
       → DoesServe told outside workers map text threads wanted s n ended
 
--- Why no site is handed on: a read failed or memory was wanted, the format is refused, a file is too long to be judged, or both are
--- accepted.
-pub data RefusesNone (outside : CommandOutside) (workers map text : List ℕ) (status : ℕ) : Type 0 where
-  Failed : (status ≡ 4) ⊎ (status ≡ 6) → RefusesNone outside workers map text status
-  Unformed : (at : ℕ) → IsRefusedFrom text at → RefusesNone outside workers map text status
-  Unjudged : StopsLong outside (File workers ∷ File map ∷ []) → RefusesNone outside workers map text status
-  Accepted : (site : AcceptedSite) → IsFound outside workers map (found.Site site) → RefusesNone outside workers map text status
+-- Nothing was done: a read failed, which is status 4, or memory was wanted where none had, which is 6.
+pub record DoesNothing {G : Type 0} (status : ℕ) (s n : CommandSide G) : Type 0 where
+  pub why : ((status ≡ 4) × Rose s.file_faults n.file_faults) ⊎ ((status ≡ 6) × (n.file_faults ≡ s.file_faults))
+  pub output : KeepsOutput s n
+  pub world : n.world ≡ s.world
 
--- What `serve` hands on beside its end: of files that are refused what it found of them.
-abbrev pub HandsOn : CommandOutside → (workers map text : List ℕ) → (status : ℕ) → Option SiteFound → Type 0
-HandsOn outside workers map text status None = RefusesNone outside workers map text status
-HandsOn outside workers map text status (Some f) = IsFound outside workers map f × (is_refused f ≡ true)
+-- Why no site is handed on: nothing was done, the format is refused, a file is too long to be judged, or both are accepted.
+pub data RefusesNone {G : Type 0} (outside : CommandOutside) (workers map text : List ℕ) (s n : CommandSide G) (status : ℕ) : Type 0 where
+  Undone : DoesNothing status s n → RefusesNone outside workers map text s n status
+  Unformed : (at : ℕ) → IsRefusedFrom text at → RefusesNone outside workers map text s n status
+  Unjudged : StopsLong outside (File workers ∷ File map ∷ []) → RefusesNone outside workers map text s n status
+  Accepted : (site : AcceptedSite) → IsFound outside workers map (found.Site site) → RefusesNone outside workers map text s n status
+
+-- What `serve` hands on beside its end: of files that are refused what it found of them, however their line was written.
+abbrev pub HandsOn : {G : Type 0} → CommandOutside → (workers map text : List ℕ) → (s n : CommandSide G) → (status : ℕ) → Option SiteFound → Type 0
+HandsOn outside workers map text s n status None = RefusesNone outside workers map text s n status
+HandsOn outside workers map text s n status (Some f) = IsFound outside workers map f × (is_refused f ≡ true)
 
 -- The application of a container of this route: it asks for no secret, and a packet has at most 8,192 bytes.
 pub record IsAppOf (route : List ℕ) (app : AppConfig) : Type 0 where
@@ -282,6 +290,7 @@ ServesOrder told order before after ended =
     (command_side told before) (command_side told after) ended)
 
 -- What `serve` hands on of its files, whatever the input.
-abbrev pub HandsOnSite : (files : Option (List (List ℕ × List ℕ))) → ServeOrder → (status : ℕ) → Option SiteFound → Type 0
-HandsOnSite files order status site =
-    OfFiles files (λ outside. HandsOn outside order.workers order.map (format_text order.format) status site)
+abbrev pub HandsOnSite : {F O W G C S Y X Z : Type 0} → CommandTells F O W G C S Y X Z → ServeOrder → (before after : F × O × W) → (status : ℕ) → Option SiteFound → Type 0
+HandsOnSite told order before after status site =
+    OfFiles (told.files before.0) (λ outside. HandsOn outside order.workers order.map (format_text order.format)
+    (command_side told before) (command_side told after) status site)

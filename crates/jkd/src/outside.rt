@@ -55,7 +55,8 @@ where
     ensures status { result.status ≡ status_of result.end }
     ensures serves { IfServed asked.now (λ o. DoesAsked (telling F.Files O.Meanings ⟦<W as ToldWorld>⟧.told)
         o (files.old, out.old, world.old) (files.new, out.new, world.new) result.end) }
-    ensures refused { IfServed asked.now (λ o. HandsOnOrder (F.files files.old) o result.status result.site) }
+    ensures refused { IfServed asked.now (λ o. HandsOnOrder (telling F.Files O.Meanings ⟦<W as ToldWorld>⟧.told)
+        o (files.old, out.old, world.old) (files.new, out.new, world.new) result.status result.site) }
     ensures plain { IfPlain asked.now (λ o. let s = plain_side F.Files S.Meanings O.Meanings in
         EndsPlain o (s files.old input.old out.old) (s files.new input.new out.new) result.end result.site) }
     ensures no_command { (result.end ≡ EndOf.Status 2) ↔ IsNoCommand asked.now }

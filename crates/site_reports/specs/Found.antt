@@ -1,5 +1,5 @@
 -- The judgement of a site's two files, and what a command prints of them.
-use Rattle.std.specs.Prelude.{◌≡◌, ℕ, Bool, true, false, List, [], Ok, Err, codes}
+use Rattle.std.specs.Prelude.{◌≡◌, ℕ, Bool, true, false, List, [], Option, Some, None, Ok, Err, codes}
 use Rattle.site_config.specs.Refusals.{LineRefusal}
 use Rattle.site_config.specs.declared.config.Config.{Config}
 use Rattle.site_mounts.specs.Lines.{read_text}
@@ -49,6 +49,14 @@ FindsSite workers map (found.Site s) =
 FindsSite workers map (found.WorkersRefused r) = (r.text ≡ workers) × IsRefusedText workers (workers_refusal r)
 FindsSite workers map (found.MapRefused r) =
     (r.workers.text ≡ workers) × IsConfig workers r.workers.config × (r.text ≡ map) × (read_text r.workers.config map ≡ Err (map_refusal r))
+
+-- the line that refuses files of which this was found; nothing was where one is too long to be judged
+abbrev pub refusing_line : Option SiteFound → List ℕ
+refusing_line None = codes "too long\n"
+refusing_line (Some (found.Workers w)) = []
+refusing_line (Some (found.Site s)) = []
+refusing_line (Some (found.WorkersRefused r)) = refusal_line (codes "workers") (workers_refusal r)
+refusing_line (Some (found.MapRefused r)) = refusal_line (codes "map") (map_refusal r)
 
 -- What is printed: of a workers.properties alone what `Alone` says of its configuration, of both files what `Of` says of the
 -- configuration and the rules, and of a file that is refused the line of its first refusal.

@@ -2,7 +2,6 @@
 use Rattle.std.specs.Prelude.{◌≡◌, ℕ, true, List, [], ◌∷◌, Option, Some, None, IsSomeAnd}
 use Rattle.site_reports.specs.Readings.{CommandOutside, File, AreRead, StopsLong}
 use Rattle.site_reports.specs.Found.{FindsSite, is_refused}
-use Rattle.site_reports.specs.Reports.{RefusesSite, ReportsSite}
 use Rattle.site_reports.specs.declared.found.SiteFound.{SiteFound}
 use Rattle.site_reports.specs.declared.found.SiteFound.TheVariants as found
 use Rattle.site_reports.specs.declared.reading.Judged.{Judged}
@@ -23,10 +22,9 @@ IsFoundRefused outside workers map (Some f) = IsFound outside workers map f × (
 -- two texts that were read
 abbrev pub Judges : (workers map : List ℕ) → Judged → Type 0
 Judges workers map (judged.Site site) = FindsSite workers map (found.Site site)
-Judges workers map (judged.Refused r) =
-    ReportsSite workers map r.line true × IsSomeAnd r.found (λ f. FindsSite workers map f × (is_refused f ≡ true))
+Judges workers map (judged.Refused f) = IsSomeAnd f (λ f. FindsSite workers map f × (is_refused f ≡ true))
 
 -- the files of these names
 abbrev pub IsJudgedSite : CommandOutside → (workers map : List ℕ) → Judged → Type 0
 IsJudgedSite outside workers map (judged.Site site) = IsFound outside workers map (found.Site site)
-IsJudgedSite outside workers map (judged.Refused r) = RefusesSite outside workers map r.line × IsFoundRefused outside workers map r.found
+IsJudgedSite outside workers map (judged.Refused f) = IsFoundRefused outside workers map f

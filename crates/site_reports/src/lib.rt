@@ -3,7 +3,8 @@
 //! Source: own rules for the lines (docs/FORMATS.md, "workers.properties" and "uriworkermap.properties").
 //! Contract: `put_config`, which adds `config_text`, and `put_matches`, which adds `match_text`. Read first:
 //! specs/ConfigText.antt, specs/Matches.antt. `judge_site` judges both texts, for all that is printed or told of them:
-//! specs/Found.antt. `read_site`, clause `ok`, reads both files and judges them: specs/Sites.antt.
+//! specs/Found.antt. `read_site`, clause `ok`, reads both files and judges them: specs/Sites.antt; `refusing_line` is the line of
+//! those that are refused.
 //! For the commands above, which read the files: specs/Readings.antt. `books_of` has a Book for each balancer: specs/Starts.antt.
 //! Errors: want of memory, and of `read_site` a fault of the files.
 #![tactic(auto)]
@@ -26,6 +27,6 @@ pub use config_text::put_config;
 pub use found::{AcceptedSite, AcceptedWorkers, RefusedMap, RefusedWorkers, SiteFound};
 pub use judging::{judge_site, judge_workers};
 pub use match_text::put_matches;
-pub use reading::{Judged, RefusedSite, read_site};
+pub use reading::{Judged, read_site};
 pub use refused_part::RefusedPart;
-pub use report::{Report, refusal_text, report_config, report_matches, report_site};
+pub use report::{Report, refusal_text, refusing_line, report_config, report_matches, report_site};

@@ -1,5 +1,5 @@
 //! The two files of a site, read and judged.
-ghost use Rattle.std.specs.Prelude.{◌≡◌, ◌<◌, ◌≤◌, ℕ, List, Option, Some, length, codes, IfOk, IsOk, IfSome, IfNone, IsSomeAnd, None};
+ghost use Rattle.std.specs.Prelude.{◌≡◌, ◌<◌, ◌≤◌, ℕ, List, Option, Some, length, IfOk, IsOk, IfSome, IfNone, IsSomeAnd};
 ghost use Rattle.jk_io.specs.Stored.{content_of};
 ghost use Rattle.jk_io.specs.Told.{HasCause};
 ghost use Rattle.site_reports.specs.Found.{FindsSite};
@@ -8,22 +8,15 @@ ghost use Rattle.site_reports.specs.Sites.{IsJudgedSite, Judges};
 
 use crate::found::{AcceptedSite, SiteFound};
 use crate::judging::judge_site;
-use crate::report::refusal_text;
 use jk_io::{Bytes, FileError, Files, IoError, NoMemory};
 use std::alloc::Global;
-
-/// Files that are refused: the line that says so, and what was found of them; nothing where one is too long to be judged.
-#[derive(Drop)]
-pub struct RefusedSite {
-    pub line: Bytes,
-    pub found: Option<SiteFound>,
-}
 
 /// What the files of a site are judged to be.
 #[derive(Drop)]
 pub enum Judged {
     Site(AcceptedSite),
-    Refused(RefusedSite),
+    /// They are refused: what was found of them, or nothing where one is too long to be judged.
+    Refused(Option<SiteFound>),
 }
 
 /// A file's text; none where it has more than 67,108,864 bytes.
@@ -43,31 +36,13 @@ fn text_of<F: Files>(alloc: Global, files: &mut F, name: &Bytes) -> Result<Optio
     }
 }
 
-/// Files that were found to be refused, by this line.
-fn refused(found: SiteFound, line: Bytes) -> Judged
-    ensures { result ≡ Judged.Refused (record { line = line; found = Some found }) }
-{
-    Judged::Refused(RefusedSite {
-        line,
-        found: Some(found),
-    })
-}
-
-/// What was found, as a site or as the line that refuses it.
-fn judged_as(alloc: Global, found: SiteFound) -> Result<Judged, NoMemory>
-    ensures { (workers map : List ℕ) → FindsSite workers map found → IfOk result (Judges workers map) }
+/// What was found of both files, as a site or as what refuses them.
+fn judged_as(found: SiteFound) -> Judged
+    ensures { (workers map : List ℕ) → FindsSite workers map found → Judges workers map result }
 {
     match found {
-        SiteFound::Workers(workers) => Ok(refused(SiteFound::Workers(workers), Bytes::new(alloc))),
-        SiteFound::Site(site) => Ok(Judged::Site(site)),
-        SiteFound::WorkersRefused(r) => {
-            let line = refusal_text(alloc, b"workers", r.line, r.code)?;
-            Ok(refused(SiteFound::WorkersRefused(r), line))
-        }
-        SiteFound::MapRefused(r) => {
-            let line = refusal_text(alloc, b"map", r.line, r.code)?;
-            Ok(refused(SiteFound::MapRefused(r), line))
-        }
+        SiteFound::Site(site) => Judged::Site(site),
+        found => Judged::Refused(Some(found)),
     }
 }
 
@@ -76,17 +51,7 @@ fn judge(alloc: Global, workers: Bytes, map: Bytes) -> Result<Judged, NoMemory>
     requires short { (length workers ≤ MAX_INPUT_BYTES) × (length map ≤ MAX_INPUT_BYTES) }
     ensures { IfOk result (Judges workers map) }
 {
-    judged_as(alloc, judge_site(alloc, workers, map)?)
-}
-
-/// The answer to a text beyond the limit.
-fn too_long(alloc: Global) -> Result<Judged, NoMemory>
-    ensures { IfOk result (λ judged. judged ≡ Judged.Refused (record { line = codes "too long\n"; found = None })) }
-{
-    Ok(Judged::Refused(RefusedSite {
-        line: Bytes::from_slice(alloc, b"too long\n")?,
-        found: None,
-    }))
+    Ok(judged_as(judge_site(alloc, workers, map)?))
 }
 
 /// Reads both files of a site before it judges any of them.
@@ -102,10 +67,10 @@ pub fn read_site<F: Files>(
     ensures steady { IsOk result → F.faults files.new ≡ F.faults files.old }
 {
     let Some(workers) = text_of(alloc, files, workers)? else {
-        return Ok(too_long(alloc)?);
+        return Ok(Judged::Refused(None));
     };
     let Some(map) = text_of(alloc, files, map)? else {
-        return Ok(too_long(alloc)?);
+        return Ok(Judged::Refused(None));
     };
     Ok(judge(alloc, workers, map)?)
 }

@@ -2,7 +2,7 @@
 ghost use Rattle.std.specs.Prelude.{◌≡◌, ◌++◌, ◌≤◌, length, IfOk, OnOk};
 ghost use Rattle.site_config.specs.Refusals.{LineRefusal};
 ghost use Rattle.site_reports.specs.ConfigText.{config_text};
-ghost use Rattle.site_reports.specs.Found.{FindsSite, FindsWorkers, PrintsFound, PrintsSite, is_refused};
+ghost use Rattle.site_reports.specs.Found.{FindsSite, FindsWorkers, PrintsFound, PrintsSite, is_refused, refusing_line};
 ghost use Rattle.site_reports.specs.Matches.{match_text};
 ghost use Rattle.site_reports.specs.Reports.{ReportsConfig, ReportsMatches, ReportsSite, refusal_line, rules_line};
 ghost use Rattle.jk_io.specs.declared.whole_input.TheConstants.{MAX_INPUT_BYTES};
@@ -106,6 +106,18 @@ fn matches_of(
         SiteFound::Site(site) => of_paths(alloc, site, paths, verbose),
         SiteFound::WorkersRefused(r) => refusal_text(alloc, b"workers", r.line, r.code),
         SiteFound::MapRefused(r) => refusal_text(alloc, b"map", r.line, r.code),
+    }
+}
+
+/// The line that refuses a site's files, by what was found of them; nothing was where one is too long to be judged.
+pub fn refusing_line(alloc: Global, found: &Option<SiteFound>) -> Result<Bytes, NoMemory>
+    ensures { IfOk result (λ line. line ≡ refusing_line found.now) }
+{
+    match found {
+        Some(SiteFound::WorkersRefused(r)) => refusal_text(alloc, b"workers", r.line, r.code),
+        Some(SiteFound::MapRefused(r)) => refusal_text(alloc, b"map", r.line, r.code),
+        Some(SiteFound::Workers(_) | SiteFound::Site(_)) => Ok(Bytes::new(alloc)),
+        None => Ok(Bytes::from_slice(alloc, b"too long\n")?),
     }
 }
 

@@ -3,6 +3,7 @@ ghost use Rattle.std.specs.Prelude.{◌≡◌, ◌≤◌, [], IsSome, None, Some
 ghost use Rattle.std.specs.Option.{option_copied};
 ghost use Rattle.jk_io.specs.Told.{HasCause};
 ghost use Rattle.request_log.specs.Formats.{refusal_line as line_of_refusal};
+ghost use Rattle.site_reports.specs.Found.{refusing_line as line_of_files};
 ghost use Rattle.jk_server.specs.Commands.{cut_at, format_text as text_of_format, telling, wants_by, HandsOnSite, ServesOrder, WorksSite, WritesLine};
 ghost use Rattle.jk_server.specs.Ends.{end_of_run, returned, status_of};
 ghost use Rattle.jk_server.specs.Watches.{watch_plan};
@@ -18,7 +19,7 @@ use jk_cli::ServeOrder;
 use jk_io::{Bytes, Door, Files, IoError, NoMemory, Sink, write_all};
 use request_log::{Format, FormatError, read_format, refusal_line};
 use site_config::Config;
-use site_reports::{AcceptedSite, Judged, RefusedSite, SiteFound, read_site};
+use site_reports::{AcceptedSite, Judged, SiteFound, read_site, refusing_line};
 use std::alloc::Global;
 use std::marker::Brand;
 use std::sync::Wait;
@@ -89,15 +90,13 @@ fn refuse<O: Sink>(out: &mut O, line: &Bytes) -> CommandEnd<Brand>
     }
 }
 
-/// Writes the line of files that are refused, and hands on what was found of them.
-fn refuse_site<O: Sink>(out: &mut O, refused: RefusedSite) -> ServeRun
-    ensures written { WritesLine (O.sent out.old) (O.sent out.new) (O.faults out.old) (O.faults out.new) refused.line result.end }
-    ensures found { result.refused ≡ refused.found }
+/// Writes the line of files that are refused, by what was found of them.
+fn refuse_site<O: Sink>(alloc: Global, found: &Option<SiteFound>, out: &mut O) -> CommandEnd<Brand>
+    ensures { WritesLine (O.sent out.old) (O.sent out.new) (O.faults out.old) (O.faults out.new) (line_of_files found.now) result }
 {
-    let RefusedSite { line, found } = refused;
-    ServeRun {
-        end: refuse(out, &line),
-        refused: found,
+    match refusing_line(alloc, found) {
+        Ok(line) => refuse(out, &line),
+        Err(NoMemory) => CommandEnd::Status(NO_MEMORY),
     }
 }
 
@@ -190,7 +189,7 @@ where
 }
 
 /// `serve`, over the files WORKERS and MAP. A format that is none is refused before any file is read. The world is shown the site
-/// before a gear is asked for; of files that are refused what was found is handed on.
+/// before a gear is asked for; of files that are refused what was found is handed on, also where their line couldn't be written.
 pub fn serve<F: Files, O: Sink, W: World, R: Threads + Wait + Sync>(
     rt: &R,
     alloc: Global,
@@ -203,7 +202,8 @@ where
     <W::D as Door>::L: Send,
     ensures serves { ServesOrder (telling F.Files O.Meanings ⟦<W as ToldWorld>⟧.told)
         order.now (files.old, out.old, world.old) (files.new, out.new, world.new) result.end }
-    ensures refused { HandsOnSite (F.files files.old) order.now (status_of result.end) result.refused }
+    ensures refused { HandsOnSite (telling F.Files O.Meanings ⟦<W as ToldWorld>⟧.told)
+        order.now (files.old, out.old, world.old) (files.new, out.new, world.new) (status_of result.end) result.refused }
 {
     let format = match read_format(alloc, format_text(&order.format)) {
         Ok(format) => format,
@@ -215,7 +215,10 @@ where
             world.show_site(alloc, &site);
             none_refused(serve_site(rt, alloc, order, &format, &site, world))
         }
-        Ok(Judged::Refused(refused)) => refuse_site(out, refused),
+        Ok(Judged::Refused(refused)) => {
+            let end = refuse_site(alloc, &refused, out);
+            ServeRun { end, refused }
+        }
         Err(error) => none_refused(end_by(error)),
     }
 }

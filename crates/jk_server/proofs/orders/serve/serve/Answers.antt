@@ -1,5 +1,7 @@
 use Rattle.std.proofs.Common.{inr, refl, ◌∙◌}
-use Rattle.jk_server.specs.Commands.{Accepted, Failed, Formatted, NoFormat, Refused, Served, Unformatted, Unformed}
+use Rattle.site_reports.specs.Found.{refusing_line}
+use Rattle.site_reports.proofs.SiteLaws.{refused_by_line}
+use Rattle.jk_server.specs.Commands.{Accepted, Formatted, NoFormat, Refused, Served, Undone, Unformatted, Unformed}
 use Rattle.jk_server.proofs.CommandLaws.{refused_hands_on, shown_side, unread, unread_hands_on}
 use Rattle.jk_server.proofs.orders.serve.serve.Goals as goal
 
@@ -14,6 +16,7 @@ returns-in-Ok-Site-clause-serves g c =
     (Served (record {
       site = site;
       is = rw c.in-Ok-Site.field-0-is at (c.in-Ok-Site.ensures.ok incoming);
+      read = c.in-Ok-Site.ensures.steady refl;
       shown = c.serve_site.ensures.unshown ∙ shown.shown;
       works = rw (shown_side _ _ site shown.same.0 shown.same.1 shown.same.2 shown.shown shown.steady) at c.serve_site.ensures.works;
       output = (refl, refl);
@@ -28,16 +31,16 @@ returns-in-Ok-Refused-clause-serves g c =
     λ incoming.
     Formatted c.in-Ok.format (rw c.format_text.ensures at c.in-Ok.ensures.ok)
     (Refused (record {
-      line = c.in-Ok-Refused.refused.line;
-      refused = (rw c.in-Ok-Refused.field-0-is at (c.in-Ok-Refused.ensures.ok incoming)).0;
-      written = c.refuse_site.ensures.written;
+      line = refusing_line c.in-Ok-Refused.refused;
+      refused = refused_by_line _ _ _ c.in-Ok-Refused.refused (rw c.in-Ok-Refused.field-0-is at (c.in-Ok-Refused.ensures.ok incoming));
+      written = c.refuse_site-end.ensures;
+      read = c.in-Ok-Refused.ensures.steady refl;
       world = refl;
     }))
 
 pub returns-in-Ok-Refused-clause-refused : goal.returns-in-Ok-Refused-clause-refused
 returns-in-Ok-Refused-clause-refused g c =
-    rw c.refuse_site.ensures.found (λ incoming.
-    refused_hands_on _ _ _ _ _ c.in-Ok-Refused.refused.found (rw c.in-Ok-Refused.field-0-is at (c.in-Ok-Refused.ensures.ok incoming)).1)
+    λ incoming. refused_hands_on _ _ _ _ _ _ _ c.in-Ok-Refused.refused (rw c.in-Ok-Refused.field-0-is at (c.in-Ok-Refused.ensures.ok incoming))
 
 pub returns-clause-serves : goal.returns-clause-serves
 returns-clause-serves g c =
@@ -47,7 +50,9 @@ returns-clause-serves g c =
 
 pub returns-clause-refused : goal.returns-clause-refused
 returns-clause-refused g c =
-    λ incoming. unread_hands_on _ _ _ _ c.in-Err.error _ _ (c.none_refused-in-Err.ensures.0 ∙ c.end_by.ensures) c.none_refused-in-Err.ensures.1
+    λ incoming.
+    unread_hands_on _ _ _ _ _ _ c.in-Err.error _ _ c.in-Err.ensures.cause (c.none_refused-in-Err.ensures.0 ∙ c.end_by.ensures) (refl, refl) refl
+    c.none_refused-in-Err.ensures.1
 
 -- ---- a format that wasn't
 
@@ -73,4 +78,4 @@ returns-in-Err-NoMemory-clause-serves g c =
 
 pub returns-in-Err-NoMemory-clause-refused : goal.returns-in-Err-NoMemory-clause-refused
 returns-in-Err-NoMemory-clause-refused g c =
-    rw (c.none_refused-in-Err-NoMemory.ensures.0, c.none_refused-in-Err-NoMemory.ensures.1) (λ incoming. Failed (inr refl))
+    rw (c.none_refused-in-Err-NoMemory.ensures.0, c.none_refused-in-Err-NoMemory.ensures.1) (λ incoming. Undone (record { why = inr (refl, refl); output = (refl, refl); world = refl }))
