@@ -6,6 +6,7 @@ pub mod GearParts
 pub mod Gears
 pub mod Logs
 pub mod Putting
+pub mod Showings
 pub mod Starts
 pub mod Steps
 pub mod Wants

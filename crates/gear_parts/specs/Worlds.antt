@@ -11,17 +11,18 @@ use Rattle.lb_model.specs.declared.segment.Segment.{Segment}
 use Rattle.conn_pool.specs.declared.tape.Tape.{Ghosts as TapeGhosts}
 use Rattle.lb_shared.specs.declared.shelf.Shelf.{Ghosts as ShelfGhosts}
 use Rattle.gear_parts.specs.Gears.{AreGiven, gear_side, GearSide, KeepsRest}
+use Rattle.gear_parts.specs.Showings.{Showing}
 use Rattle.gear_parts.specs.Wants.{GearWants}
 use Rattle.gear_parts.specs.declared.world.Gear.{Gear}
 use Rattle.gear_parts.specs.declared.world.World.{Ghosts as WorldGhosts}
 
--- The gears that it handed out and those that came back, each as it was then, how many are out, the sites that it was shown, and
--- how often it failed.
+-- The gears that it handed out and those that came back, each as it was then, how many are out, the sites that it was shown, each
+-- with the gears that were handed out before, and how often it failed.
 pub record WorldSide (G : Type 0) : Type 0 where
   pub handed : Option (List G)
   pub back : Option (List G)
   pub out : ℕ
-  pub shown : Option (List AcceptedSite)
+  pub shown : Option (List (Showing G))
   pub faults : ℕ
 
 -- a world at a moment, by what its type tells: `world_side W.World world`
@@ -34,9 +35,9 @@ world_side of_world world = record {
   faults = of_world.faults world;
 }
 
--- a world after it was shown this site
+-- a world after it was shown this site, when the gears were handed out that were before
 abbrev pub shown_to : {G : Type 0} → WorldSide G → AcceptedSite → WorldSide G
-shown_to s site = record { handed = s.handed; back = s.back; out = s.out; shown = appended s.shown (site ∷ []); faults = s.faults }
+shown_to s site = record { handed = s.handed; back = s.back; out = s.out; shown = appended s.shown (record { site = site; handed = s.handed } ∷ []); faults = s.faults }
 
 -- a gear at a moment, by what its types tell: `gear_told W.D.Door W.T.Tape W.K.Clock gear`
 abbrev pub gear_told : {D G T K S O C X : Type 0} → DoorGhosts D C X → TapeGhosts T → ClockGhosts K → Gear D G T K S O → GearSide C S O

@@ -32,10 +32,10 @@ pub trait World {
     ghost use Rattle.std.specs.Prelude.{◌≡◌, ◌+◌, ◌<◌, ◌≤◌, ℕ, List, Option, Some, None, [], ◌∷◌, length, IfOk, IfSome, IsOk, IsSome, OnErr, OnOk};
     ghost use Rattle.jk_io.specs.Told.{HasCause, IsEmpty, appended};
     ghost use Rattle.std.specs.Option.{option_copied};
+    ghost use Rattle.gear_parts.specs.Showings.{Showing};
     ghost use Rattle.gear_parts.specs.Wants.{GearWants, wants_of};
     ghost use Rattle.gear_parts.specs.declared.world.Gear.{Gear as AnyGear};
     ghost use Rattle.site_config.specs.declared.config.Config.{Config as AnyConfig};
-    ghost use Rattle.site_reports.specs.declared.found.AcceptedSite.{AcceptedSite as AnySite};
 
     type D: Door + Drop + Send;
 
@@ -55,8 +55,8 @@ pub trait World {
     // the gears that came back, each as it was then
     ghost came_back: { Self → Option (List (AnyGear Self.D Self.G Self.T Self.K Self.S Self.O)) };
 
-    // the sites that it was shown, in order; most worlds don't tell
-    ghost shown: { Self → Option (List AnySite) } = { λ _. None };
+    // the sites that it was shown, in order, each with the gears that were handed out before; most worlds don't tell
+    ghost shown: { Self → Option (List (Showing (AnyGear Self.D Self.G Self.T Self.K Self.S Self.O))) } = { λ _. None };
 
     // how many gears are out
     ghost out: { Self → ℕ };
@@ -73,7 +73,7 @@ pub trait World {
     /// Is shown the site that is to be served, before a gear is asked for. Nothing is handed out or taken back by it, and no
     /// call fails.
     fn show_site(&mut self, alloc: Global, site: &AcceptedSite)
-        ensures shown { shown self.new ≡ appended (shown self.old) (site.now ∷ []) }
+        ensures shown { shown self.new ≡ appended (shown self.old) (record { site = site.now; handed = handed self.old } ∷ []) }
         ensures same { (handed self.new ≡ handed self.old) × (came_back self.new ≡ came_back self.old) × (out self.new ≡ out self.old) }
         ensures steady { faults self.new ≡ faults self.old };
 

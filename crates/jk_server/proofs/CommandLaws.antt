@@ -11,6 +11,7 @@ use Rattle.site_reports.specs.declared.found.SiteFound.{SiteFound}
 use Rattle.jk_server.specs.Commands.{CommandSide, ContainsLinks, HandsOn, KeepsOutput, LacksLog, RunsContainer, ServesFiles, Undone, Unjudged, Unread, Works, NoGear, NoRoom}
 use Rattle.request_log.specs.declared.format.Part.{Part as FormatPart}
 use Rattle.jk_server.specs.Ends.{end_by, status_of}
+use Rattle.gear_parts.specs.Showings.{Showing}
 use Rattle.gear_parts.specs.Wants.{GearWants}
 use Rattle.gear_parts.specs.Worlds.{HandsAndTakes, RefusesGear, shown_to, Tells, WorldSide}
 use Rattle.jk_server.specs.declared.orders.ends.CommandEnd.{CommandEnd}
@@ -96,11 +97,11 @@ still_taken s m n gears taken handed back out faults = record {
 }
 
 -- a world of these parts
-abbrev side_of : {G : Type 0} → (handed back : Option (List G)) → (out : ℕ) → (shown : Option (List AcceptedSite)) → (faults : ℕ) → WorldSide G
+abbrev side_of : {G : Type 0} → (handed back : Option (List G)) → (out : ℕ) → (shown : Option (List (Showing G))) → (faults : ℕ) → WorldSide G
 side_of handed back out shown faults = record { handed = handed; back = back; out = out; shown = shown; faults = faults }
 
 -- a world that was shown a site, of which nothing else changed
-pub shown_side : {G : Type 0} (s m : WorldSide G) (site : AcceptedSite) → m.handed ≡ s.handed → m.back ≡ s.back → m.out ≡ s.out → m.shown ≡ appended s.shown (site ∷ [])
+pub shown_side : {G : Type 0} (s m : WorldSide G) (site : AcceptedSite) → m.handed ≡ s.handed → m.back ≡ s.back → m.out ≡ s.out → m.shown ≡ appended s.shown (record { site = site; handed = s.handed } ∷ [])
     → m.faults ≡ s.faults → m ≡ shown_to s site
 shown_side s m site handed back out shown faults =
     let same : side_of m.handed m.back m.out m.shown m.faults ≡ shown_to s site = rw (handed, back, out, shown, faults) refl in

@@ -184,13 +184,14 @@ pub record LacksFiles {G L : Type 0} (s n : CommandSide G) (ended : CommandEnd L
   pub output : KeepsOutput s n
   pub world : n.world ≡ s.world
 
--- The files were read, and are a site. The world was shown it and no other, and then this many workers were wanted. Nothing was
+-- The files were read, and are a site. The world was shown it, once and no other, when it had handed out the gears alone that were
+-- out before, and then this many workers were wanted. So each gear was handed out to serve a site that had been shown. Nothing was
 -- written.
 pub record ServesSite {W G C S O X Z L : Type 0} (told : Tells W G C S O X Z) (outside : CommandOutside) (workers map : List ℕ) (format : List FormatPart) (threads : ℕ) (wanted : GearWants) (s n : CommandSide G) (ended : CommandEnd L) : Type 0 where
   pub site : AcceptedSite
   pub is : IsFound outside workers map (found.Site site)
   pub read : n.file_faults ≡ s.file_faults
-  pub shown : n.world.shown ≡ appended s.world.shown (site ∷ [])
+  pub shown : n.world.shown ≡ appended s.world.shown (record { site = site; handed = s.world.handed } ∷ [])
   pub works : Works threads (RunsLogged told site.workers.config site.rules format threads wanted) (shown_to s.world site) n.world ended
   pub output : KeepsOutput s n
 
