@@ -1,5 +1,5 @@
 //! The openings of the real world: the socket that accepts clients, and files.
-ghost use Rattle.std.specs.Prelude.{◌≡◌, ◌++◌, IfOk, codes, map};
+ghost use Rattle.std.specs.Prelude.{◌≡◌, ◌++◌, IfOk, IsUtf8, codes, map, string_bytes};
 ghost use Rattle.gear_worlds.specs.Files.{file_path, worker_file};
 
 use crate::journal_files::path_of;
@@ -22,10 +22,11 @@ fn as_text(bytes: &Bytes) -> io::Result<&str> {
     }
 }
 
-/// The bytes as a person reads them.
-pub(crate) fn shown(alloc: Global, bytes: &Bytes) -> Result<String, NoMemory> {
-    let text = str::from_utf8(bytes.as_slice()).unwrap_or("?");
-    Ok(String::from_str(alloc, text)?)
+/// The bytes as a person reads them. Those that aren't UTF-8 are shown by a mark.
+pub(crate) fn shown(alloc: Global, bytes: &Bytes) -> Result<String, NoMemory>
+    ensures { IfOk result (λ text. IsUtf8 bytes.now → string_bytes text ≡ bytes.now) }
+{
+    Ok(String::from_utf8_lossy(alloc, bytes.as_slice())?)
 }
 
 /// Opens the socket unless it is open, and gives a further handle of it.

@@ -1,11 +1,12 @@
 //! Shelves of the real world: files in a directory, or none.
-ghost use Rattle.std.specs.Prelude.{◌≡◌, ◌≤◌, IfOk, IsSome, None, true, false, Ok, Err, IsErrOf, OnOk, Some, slice_get};
+ghost use Rattle.std.specs.Prelude.{◌≡◌, ◌≤◌, IfErr, IfOk, IsSome, None, true, IsErrOf, OnOk, Some, slice_get, string_bytes};
 ghost use Rattle.std.specs.Fs.{asks_create_new, asks_write};
 ghost use Rattle.gear_worlds.specs.Files.{IsFileOf};
-ghost use Rattle.gear_worlds.specs.Real.{shelf_trouble};
-ghost use Rattle.jk_io.specs.Told.{HasCause};
+ghost use Rattle.gear_worlds.specs.Real.{IsWhy, KeepsTrouble, SaysUnkept, SaysUnwritten, shelf_trouble};
+ghost use Rattle.jk_io.specs.Told.{HasCause, Rose};
 
 use crate::journal_files::{SegmentFile, segment_file};
+use crate::opening::shown;
 use crate::segment_turns::SegmentTurns;
 use crate::tries::{APART_MILLIS, patience};
 use crate::trouble::Trouble;
@@ -68,25 +69,28 @@ impl<'r, R: Files + Wait + Clock> FileShelf<'r, R> {
         self.trouble.take()
     }
 
-    // Keeps why a segment couldn't be written, of the first that couldn't.
-    fn note(&mut self, trouble: Trouble)
+    // Counts a failure, and keeps the first one's reason.
+    fn fail(&mut self, trouble: Trouble) -> IoError
+        ensures error { result ≡ IoError.Failed }
+        ensures rose { Rose self.old.failed self.new.failed × (self.old.failed ≤ self.new.failed) }
         ensures first { self.old.trouble ≡ None → self.new.trouble ≡ Some trouble }
         ensures kept { IsSome self.old.trouble → self.new.trouble ≡ self.old.trouble }
-        ensures same { self.new.failed ≡ self.old.failed }
+        ensures same { (self.new.dir ≡ self.old.dir) × (self.new.names ≡ self.old.names) }
     {
         if self.trouble.is_none() {
             self.trouble = Some(trouble);
         }
+        self.failed = self.failed.saturating_add(1);
+        IoError::Failed
     }
 
-    // Writes the file of a segment, and says whether that was done whole. A balancer that has no name here has no file.
-    fn write(&mut self, lb: u32, segment: &Segment) -> Result<bool, NoMemory>
-        ensures same { self.new.failed ≡ self.old.failed }
-        ensures first { IsSome self.old.trouble → self.new.trouble ≡ self.old.trouble }
+    // Writes the file of a segment. A balancer that has no name here has none.
+    fn write(&self, lb: u32, segment: &Segment) -> Result<(), KeepError>
+        ensures { IfErr result (IsWhy (SaysUnkept self.now.dir self.now.names lb segment.now)) }
     {
         match self.file_of(lb, segment)? {
-            Some(file) => Ok(self.write_file(lb, file)),
-            None => Ok(false),
+            Some(file) => self.write_file(lb, file),
+            None => Err(KeepError::Lost(Trouble::Nameless { lb })),
         }
     }
 
@@ -100,15 +104,12 @@ impl<'r, R: Files + Wait + Clock> FileShelf<'r, R> {
         }
     }
 
-    // Writes a new file, and says whether that was done whole. It isn't where the path isn't UTF-8.
-    fn write_file(&mut self, lb: u32, file: SegmentFile) -> bool
-        ensures same { self.new.failed ≡ self.old.failed }
-        ensures first { IsSome self.old.trouble → self.new.trouble ≡ self.old.trouble }
+    // Writes a new file whole. That can't be done where its path isn't UTF-8.
+    fn write_file(&self, lb: u32, file: SegmentFile) -> Result<(), KeepError>
+        ensures { IfErr result (IsWhy (SaysUnwritten file.path)) }
     {
         let SegmentFile { path, text } = file;
-        let Ok(path) = String::from_utf8(path.into_vec()) else {
-            return false;
-        };
+        let path = text_of(path)?;
         let trying = Trying {
             notices: &self.notices,
             turns: &self.turns,
@@ -116,29 +117,12 @@ impl<'r, R: Files + Wait + Clock> FileShelf<'r, R> {
             until: moment().saturating_add(patience(self.trouble.as_ref())),
         };
         match write_until(self.rt, trying, path.as_str(), text.as_slice()) {
-            Ok(()) => true,
+            Ok(()) => Ok(()),
             Err(reason) => {
                 self.notices.given_up(path.as_str(), &reason);
-                self.note(Trouble::Unwritten { path, reason });
-                false
+                Err(KeepError::Lost(Trouble::Unwritten { path, reason }))
             }
         }
-    }
-
-    // The answer of a call; it is counted where nothing was written.
-    fn answer(&mut self, written: bool) -> Result<(), IoError>
-        ensures written { written ≡ true → result ≡ Ok tt }
-        ensures failed { written ≡ false → result ≡ Err IoError.Failed }
-        ensures cause { HasCause self.old.failed self.new.failed result }
-        ensures stands { OnOk result (self.new.failed ≡ self.old.failed) }
-        ensures wanted { IsErrOf result IoError.NoMemory → self.new.failed ≡ self.old.failed }
-        ensures same { self.new.trouble ≡ self.old.trouble }
-    {
-        if written {
-            return Ok(());
-        }
-        self.failed = self.failed.saturating_add(1);
-        Err(IoError::Failed)
     }
 
     // Says how far the journal of a balancer is in files now.
@@ -157,12 +141,53 @@ impl<'r, R: Files + Wait + Clock> FileShelf<'r, R> {
         ensures cause { HasCause self.old.failed self.new.failed result }
         ensures stands { OnOk result (self.new.failed ≡ self.old.failed) }
         ensures wanted { IsErrOf result IoError.NoMemory → self.new.failed ≡ self.old.failed }
-        ensures first { IsSome self.old.trouble → self.new.trouble ≡ self.old.trouble }
+        ensures trouble { KeepsTrouble (SaysUnkept self.old.dir self.old.names lb segment.now) self.old.trouble self.new.trouble result }
+        ensures same { (self.new.dir ≡ self.old.dir) × (self.new.names ≡ self.old.names) }
     {
         self.turns.wait_until(self.rt, lb, segment.opening.next);
         let written = self.write(lb, segment);
-        self.pass_on(lb, segment, matches!(written, Ok(true)));
-        self.answer(written?)
+        self.pass_on(lb, segment, written.is_ok());
+        match written {
+            Ok(()) => Ok(()),
+            Err(KeepError::Lost(trouble)) => Err(self.fail(trouble)),
+            Err(KeepError::NoMemory) => Err(IoError::NoMemory),
+        }
+    }
+}
+
+// Why a segment isn't kept.
+#[derive(Drop)]
+enum KeepError {
+    /// It has no file, or not a whole one.
+    Lost(Trouble),
+    NoMemory,
+}
+
+impl From<NoMemory> for KeepError {
+    ghost use Rattle.std.specs.Prelude.{◌≡◌};
+    ghost use Rattle.gear_worlds.specs.declared.shelves.KeepError.TheVariants as keep;
+
+    ghost from_gives = { λ _ e. e ≡ keep.NoMemory };
+
+    fn from(_error: NoMemory) -> KeepError {
+        KeepError::NoMemory
+    }
+}
+
+// The path of a file that is to be written, as a text. One that isn't UTF-8 is refused.
+fn text_of(path: Bytes) -> Result<String, KeepError>
+    ensures ok { IfOk result (λ text. string_bytes text ≡ path) }
+    ensures err { IfErr result (IsWhy (SaysUnwritten path)) }
+{
+    let bytes = path.into_vec();
+    let alloc = *bytes.allocator();
+    match String::from_utf8(bytes) {
+        Ok(text) => Ok(text),
+        Err(error) => {
+            let path = shown(alloc, &Bytes::from_vec(error.into_bytes()))?;
+            let reason = ErrorKind::InvalidInput.into();
+            Err(KeepError::Lost(Trouble::Unwritten { path, reason }))
+        }
     }
 }
 
@@ -222,14 +247,23 @@ fn write_new<R: Files>(rt: &R, path: &str, text: &[u8]) -> io::Result<()> {
 }
 
 impl<'r, R: Files + Wait + Clock> Shelf for FileShelf<'r, R> {
-    ghost use Rattle.std.specs.Prelude.{None};
+    ghost use Rattle.std.specs.Prelude.{◌≡◌, IsErrOf, None, OnOk};
+    ghost use Rattle.jk_io.specs.Told.{HasCause};
+    ghost use Rattle.gear_worlds.specs.Real.{KeepsTrouble, SaysUnkept};
 
     ghost shelved = { λ _. None };
 
     ghost faults = { λ s. s.failed };
 
-    /// It fails for a balancer that has no name here, and where the file can't be made new and written whole.
-    fn keep(&mut self, lb: u32, segment: Segment) -> Result<(), IoError> {
+    /// It fails for a balancer that has no name here, and where the file can't be made new and written whole. The first such
+    /// trouble is kept.
+    fn keep(&mut self, lb: u32, segment: Segment) -> Result<(), IoError>
+        ensures cause { HasCause self.old.failed self.new.failed result }
+        ensures stands { OnOk result (self.new.failed ≡ self.old.failed) }
+        ensures wanted { IsErrOf result IoError.NoMemory → self.new.failed ≡ self.old.failed }
+        ensures trouble { KeepsTrouble (SaysUnkept self.old.dir self.old.names lb segment) self.old.trouble self.new.trouble result }
+        ensures same { (self.new.dir ≡ self.old.dir) × (self.new.names ≡ self.old.names) }
+    {
         self.keep_file(lb, &segment)
     }
 
@@ -299,14 +333,20 @@ impl<'r, R: Files + Wait + Clock> RealShelf<'r, R> {
 }
 
 impl<'r, R: Files + Wait + Clock> Shelf for RealShelf<'r, R> {
-    ghost use Rattle.std.specs.Prelude.{None};
-    ghost use Rattle.gear_worlds.specs.Real.{shelf_faults};
+    ghost use Rattle.std.specs.Prelude.{◌≡◌, IsErrOf, None, OnOk};
+    ghost use Rattle.jk_io.specs.Told.{HasCause};
+    ghost use Rattle.gear_worlds.specs.Real.{KeepsTrouble, shelf_faults, shelf_says, shelf_trouble};
 
     ghost shelved = { λ _. None };
 
     ghost faults = { shelf_faults };
 
-    fn keep(&mut self, lb: u32, segment: Segment) -> Result<(), IoError> {
+    fn keep(&mut self, lb: u32, segment: Segment) -> Result<(), IoError>
+        ensures cause { HasCause (shelf_faults self.old) (shelf_faults self.new) result }
+        ensures stands { OnOk result (shelf_faults self.new ≡ shelf_faults self.old) }
+        ensures wanted { IsErrOf result IoError.NoMemory → shelf_faults self.new ≡ shelf_faults self.old }
+        ensures trouble { KeepsTrouble (shelf_says self.old lb segment) (shelf_trouble self.old) (shelf_trouble self.new) result }
+    {
         match self {
             RealShelf::Files(shelf) => shelf.keep(lb, segment),
             RealShelf::Dropped(shelf) => shelf.keep(lb, segment),

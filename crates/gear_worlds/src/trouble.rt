@@ -17,6 +17,9 @@ pub enum Trouble {
     Journal { dir: String, reason: io::Error },
     #[error("can't write {path}: {reason}")]
     Unwritten { path: String, reason: io::Error },
+    /// A balancer's journal has no file, since none can be named after it.
+    #[error("can't write the journal of balancer {lb}: it has no name")]
+    Nameless { lb: u32 },
     /// A segment's file is never written over.
     #[error("a journal is there already: {path}")]
     Taken { path: String },
