@@ -1,4 +1,3 @@
-pub mod HeldFacts
 pub mod KeptFacts
 pub mod LineFacts
 pub mod LineLaws
@@ -8,7 +7,6 @@ pub mod OpeningFacts
 pub mod PairFacts
 pub mod ReadingLaws
 pub mod SaidFacts
-pub mod SegmentProps
 pub mod SplitFacts
 pub mod WideLemmas
 pub mod WordFacts

@@ -1,13 +1,16 @@
 //! Segments as a text has them: with their balancer's name, and how many lines they take.
 use jk_io::{Bytes, ListOf};
-use lb_model::Segment;
+use lb_model::{EntryList, Opening, Segment};
 
 /// A segment as a text has it.
 #[derive(Drop)]
 pub struct Counted {
     /// The name of its balancer.
     pub name: Bytes,
-    pub segment: Segment,
+    /// Its rules, 1 or 2.
+    pub rules: u8,
+    pub opening: Opening,
+    pub entries: EntryList,
     /// What its last line says is the count of its entries.
     pub count: u64,
 }

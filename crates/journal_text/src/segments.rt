@@ -1,6 +1,7 @@
 //! The segments of a text.
-ghost use Rattle.std.specs.Prelude.{◌≡◌, ◌≤◌, length, map, reverse, IfOk};
-ghost use Rattle.journal_text.specs.Pairs.{IsReadAs, pair_of};
+ghost use Rattle.std.specs.Prelude.{◌≡◌, ◌≤◌, All, length, reverse, IfOk};
+ghost use Rattle.journal_text.specs.Kept.{IsKeptSegment};
+ghost use Rattle.journal_text.specs.Pairs.{ArePairsOf, IsPairOf, IsReadAs};
 ghost use Rattle.jk_io.specs.declared.whole_input.TheConstants.{MAX_INPUT_BYTES};
 
 use crate::counted::{Counted, CountedList, SegmentList};
@@ -11,19 +12,28 @@ use lb_model::Segment;
 use std::alloc::Global;
 
 fn segment_of(counted: Counted) -> (Bytes, Segment)
-    ensures { result ≡ pair_of counted }
+    requires { IsKeptSegment counted }
+    ensures { IsPairOf counted result }
 {
     let Counted {
         name,
-        segment,
+        rules,
+        opening,
+        entries,
         count: _,
     } = counted;
+    let segment = Segment {
+        rules,
+        opening,
+        entries,
+    };
     (name, segment)
 }
 
 // The last one first.
 fn segments_of(alloc: Global, counted: CountedList) -> Result<Vec<(Bytes, Segment)>, NoMemory>
-    ensures { IfOk result (λ pairs. reverse pairs.items ≡ map pair_of counted) }
+    requires { All IsKeptSegment counted }
+    ensures { IfOk result (λ pairs. ArePairsOf counted (reverse pairs.items)) }
 {
     let mut counted = counted;
     let mut pairs = Vec::with_capacity(alloc, counted.len())?;
