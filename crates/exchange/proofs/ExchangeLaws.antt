@@ -21,6 +21,7 @@ use Rattle.exchange.specs.FirstPiece.{IsFirstFailure, TakesFirst}
 use Rattle.exchange.specs.OneTalk.{Around}
 use Rattle.exchange.specs.Requests.{Errand, ask_for, own_kind, plan_for}
 use Rattle.exchange.specs.Rounds.{HaveGoneOn, IsRound, MayGoOn, Round, Scene, is_later, tried_in}
+use Rattle.http_out.specs.declared.own_answers.Own.{Own}
 use Rattle.exchange.specs.Steps.{Concludes, IsNoChoice, IsStep, IsWritten}
 use Rattle.exchange.specs.Talks.{HasRun, is_fresh}
 use Rattle.exchange.specs.declared.ending.ExchangeEnd.{ExchangeEnd}
@@ -59,9 +60,9 @@ run_unmoved q first member config endpoint fresh s n end bytes (inr (inr (is, sa
 
 -- nobody was chosen, so no other round follows
 none_again : (q : Errand) (tried : ℕ) (s n : Scene) (m : ℕ) → IsNoChoice q tried s n (verdict.Again m) → ⊥
-none_again q tried s n m (inl none) = let is : verdict.Again m ≡ verdict.Answer 503 = none.0 in cc
-none_again q tried s n m (inr (inl forced)) = let is : verdict.Again m ≡ verdict.Answer 500 = forced.0 in cc
-none_again q tried s n m (inr (inr (inl full))) = let is : verdict.Again m ≡ verdict.Answer 500 = full.0 in cc
+none_again q tried s n m (inl none) = let is : verdict.Again m ≡ verdict.Answer Own.ServiceUnavailable = none.0 in cc
+none_again q tried s n m (inr (inl forced)) = let is : verdict.Again m ≡ verdict.Answer Own.InternalServerError = forced.0 in cc
+none_again q tried s n m (inr (inr (inl full))) = let is : verdict.Again m ≡ verdict.Answer Own.InternalServerError = full.0 in cc
 none_again q tried s n m (inr (inr (inr wanted))) = let is : verdict.Again m ≡ verdict.End exchange_end.NoMemory = wanted.0 in cc
 
 pub record HasTried (q : Errand) (first : List ℕ) (tried : ℕ) (fresh : Bool) (s n : Scene) (m : ℕ) : Type 0 where
@@ -141,12 +142,12 @@ pub never_began : (q : Errand) (s n : Scene) (end : ExchangeEnd)
 never_began q s n end why desk clock talks faults written steady used =
     inl (record { why = why; desk = desk; clock = clock; talks = talks; faults = faults; written = written; steady = steady; used = used })
 
-pub goes_own : (q : Errand) (first : List ℕ) (b n m : Scene) (ask : Ask) (fresh : Bool) (status : ℕ) (client : Moment) (body : BodyAt) (end : ExchangeEnd)
-    → IsSearching q first b n ask fresh → IsStep q first ask.tried fresh n m (verdict.Answer status) → body ≡ m.around.body → m.around.client.faults ≤ client.faults
-    → IsWritten status (own_kind q) m.around.client client end → GoesThrough q first b (record m { around = record m.around { client = client; body = body } }) end
-goes_own q first b n m ask fresh status client body end way step same no_fewer written =
+pub goes_own : (q : Errand) (first : List ℕ) (b n m : Scene) (ask : Ask) (fresh : Bool) (own : Own) (client : Moment) (body : BodyAt) (end : ExchangeEnd)
+    → IsSearching q first b n ask fresh → IsStep q first ask.tried fresh n m (verdict.Answer own) → body ≡ m.around.body → m.around.client.faults ≤ client.faults
+    → IsWritten own (own_kind q) m.around.client client end → GoesThrough q first b (record m { around = record m.around { client = client; body = body } }) end
+goes_own q first b n m ask fresh own client body end way step same no_fewer written =
     let with : BodyAt → Scene = λ x. record m { around = record m.around { client = client; body = x } } in
-    goes_through q first b n m (with body) ask fresh (verdict.Answer status) end way step (ap with same, no_fewer, written)
+    goes_through q first b n m (with body) ask fresh (verdict.Answer own) end way step (ap with same, no_fewer, written)
 
 abbrev pub body_with : BodyIn → List ℕ → Option (List ℕ) → BodyAt
 body_with body inbox told = record { body = body; unread = unread inbox told }

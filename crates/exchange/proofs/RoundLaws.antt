@@ -20,6 +20,7 @@ use Rattle.exchange.specs.Talks.{HasRun}
 use Rattle.exchange.specs.declared.ending.ExchangeEnd.TheVariants as exchange_end
 use Rattle.exchange.specs.declared.ending.Ran.{Ran}
 use Rattle.exchange.specs.declared.ending.Ran.TheVariants as ran_is
+use Rattle.http_out.specs.declared.own_answers.Own.{Own}
 use Rattle.exchange.specs.declared.ending.RoundVerdict.{RoundVerdict}
 use Rattle.exchange.specs.declared.ending.RoundVerdict.TheVariants as verdict
 
@@ -84,7 +85,7 @@ wanted_told numbers old new lb session at refused = record {
 
 pub no_member : {T : Type 0} (note : T → LeaseNote) (q : Errand) (first : List ℕ) (fresh : Bool) (s n : Scene) (at : ℕ) (ask : Ask) → ask ≡ ask_for q ask.tried
     → Answers s.clock at n.clock → n.around ≡ s.around → n.desk.held ≡ s.desk.held
-    → Chooses note s.desk n.desk q.lb q.session at ask choice.NoMember → IsStep q first ask.tried fresh s n (verdict.Answer 503)
+    → Chooses note s.desk n.desk q.lb q.session at ask choice.NoMember → IsStep q first ask.tried fresh s n (verdict.Answer Own.ServiceUnavailable)
 no_member note q first fresh s n at ask is asked same held chose =
     inl (inl (
       refl,
@@ -99,7 +100,7 @@ no_member note q first fresh s n at ask is asked same held chose =
 
 pub forced : {T : Type 0} (note : T → LeaseNote) (q : Errand) (first : List ℕ) (fresh : Bool) (s n : Scene) (at : ℕ) (ask : Ask) → ask ≡ ask_for q ask.tried
     → Answers s.clock at n.clock → n.around ≡ s.around → n.desk.held ≡ s.desk.held
-    → Chooses note s.desk n.desk q.lb q.session at ask choice.Forced → IsStep q first ask.tried fresh s n (verdict.Answer 500)
+    → Chooses note s.desk n.desk q.lb q.session at ask choice.Forced → IsStep q first ask.tried fresh s n (verdict.Answer Own.InternalServerError)
 forced note q first fresh s n at ask is asked same held chose =
     inl (inr (inl (
       refl,
@@ -114,7 +115,7 @@ forced note q first fresh s n at ask is asked same held chose =
 
 pub full : {M : Type 0} (numbers : M → FullMark) (q : Errand) (first : List ℕ) (tried : ℕ) (fresh : Bool) (s n : Scene) (at : ℕ) (mark : M)
     → Answers s.clock at n.clock → n.around ≡ s.around → RefusesChoice numbers s.desk n.desk q.lb q.session at (room.Full mark)
-    → IsStep q first tried fresh s n (verdict.Answer 500)
+    → IsStep q first tried fresh s n (verdict.Answer Own.InternalServerError)
 full numbers q first tried fresh s n at mark asked same refused =
     inl (inr (inr (inl (
       refl,

@@ -1,6 +1,7 @@
 //! How an exchange ends, and what becomes of a request before that.
 
 use ajp_talk::{TalkEnd, Told};
+use http_out::Own;
 
 /// How an exchange ended.
 #[derive(Clone, Copy, PartialEq, Eq)]
@@ -46,6 +47,6 @@ pub enum RoundVerdict {
     /// Another member is tried, and this one no more.
     Again { member: u32 },
     /// The client gets an answer of the connector's own.
-    Answer(u16),
+    Answer(Own),
     End(ExchangeEnd),
 }

@@ -77,8 +77,8 @@ where
                 ask.tried = with_member(ask.tried, member);
                 fresh = true;
             }
-            RoundVerdict::Answer(status) => {
-                return write_own(status, own_kind(request), means.sides.client);
+            RoundVerdict::Answer(own) => {
+                return write_own(own, own_kind(request), means.sides.client);
             }
             RoundVerdict::End(end) => return end,
         }

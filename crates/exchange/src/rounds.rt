@@ -14,6 +14,7 @@ use crate::sides::Means;
 use crate::talks::run_talks;
 use crate::target::{Target, target_of};
 use crate::verdicts::{outcome_of, verdict_of};
+use http_out::Own;
 use jk_io::{Bytes, Clock, Link, Reach};
 use lb_book::Desk;
 use lb_book::desk::Choice;
@@ -38,9 +39,9 @@ where
 {
     match desk.choose(request.lb, request.session, at, ask) {
         Ok(Choice::Chosen { member, lease }) => Ok((member, lease)),
-        Ok(Choice::NoMember) => Err(RoundVerdict::Answer(503)),
-        Ok(Choice::Forced) => Err(RoundVerdict::Answer(500)),
-        Err(RoomError::Full(_)) => Err(RoundVerdict::Answer(500)),
+        Ok(Choice::NoMember) => Err(RoundVerdict::Answer(Own::ServiceUnavailable)),
+        Ok(Choice::Forced) => Err(RoundVerdict::Answer(Own::InternalServerError)),
+        Err(RoomError::Full(_)) => Err(RoundVerdict::Answer(Own::InternalServerError)),
         Err(RoomError::NoMemory) => Err(RoundVerdict::End(ExchangeEnd::NoMemory)),
     }
 }

@@ -10,6 +10,7 @@ use ajp_reply::Stage;
 use ajp_talk::{Cause, TalkEnd, Told};
 use forwarding::may_retry;
 use http_front::Head;
+use http_out::Own;
 use lb_model::{FailList, Kind, Outcome};
 use site_config::Endpoint;
 
@@ -114,7 +115,8 @@ fn after_failure(member: u32, cause: Cause, told: Option<Told>) -> RoundVerdict
 {
     match told {
         Some(told) => RoundVerdict::End(ExchangeEnd::Cut { member, told }),
-        None => RoundVerdict::Answer(if is_status(cause) { 503 } else { 502 }),
+        None if is_status(cause) => RoundVerdict::Answer(Own::ServiceUnavailable),
+        None => RoundVerdict::Answer(Own::BadGateway),
     }
 }
 
@@ -123,7 +125,7 @@ fn after_bad_body(member: u32, status: u16, told: Option<Told>) -> RoundVerdict
 {
     match told {
         Some(told) => RoundVerdict::End(ExchangeEnd::Cut { member, told }),
-        None => RoundVerdict::Answer(status),
+        None => RoundVerdict::Answer(Own::with_status(status)),
     }
 }
 
@@ -164,7 +166,7 @@ pub(crate) fn verdict_of(endpoint: &Endpoint, head: &Head, member: u32, ran: Ran
     ensures { result ≡ verdict_for endpoint.now head.now member ran }
 {
     match ran {
-        Ran::TooLarge => RoundVerdict::Answer(413),
+        Ran::TooLarge => RoundVerdict::Answer(Own::ContentTooLarge),
         Ran::Wanted { .. } => RoundVerdict::End(ExchangeEnd::NoMemory),
         Ran::Ended { end, .. } => after(endpoint, head, member, end),
     }

@@ -11,7 +11,6 @@ use Rattle.exchange.proofs.DeskLaws.{untouched}
 use Rattle.exchange.proofs.ExchangeLaws.{begins, first_fits_each, goes_own, goes_through, is_another, is_exchange, never_began, same_body, searches_on}
 use Rattle.exchange.proofs.KeepingLaws.{asks_again, means_twice, means_untouched}
 use Rattle.exchange.proofs.MeansLaws.{as_many}
-use Rattle.exchange.proofs.OwnLaws.{step_own}
 use Rattle.exchange.proofs.TriedLaws.{fewer_left}
 use Rattle.exchange.proofs.UsedLaws.{unasked, uses_all}
 use Rattle.exchange.proofs.WholeLaws.{sends_once}
@@ -71,15 +70,12 @@ loop-member-preserved g c = record {
 pub loop-member-smaller : goal.loop-member-smaller
 loop-member-smaller g c = fewer_left _ _ _ c.with_member.ensures (omega arith)
 
-pub write_own-requires : goal.write_own-requires
-write_own-requires g c = step_own _ _ _ _ _ _ _ c.in-Answer.ensures.step
-
 -- ---- the exits
 
 pub returns-in-Answer-clause-exchange : goal.returns-in-Answer-clause-exchange
 returns-in-Answer-clause-exchange g c =
     is_exchange _ _ _ _ _ _ _ c.in-Ok-take_first.ensures.ok c.take_first.ensures.same.0 c.in-Ok-take_first.ensures.steady
-    (goes_own _ _ _ _ _ _ _ c.in-Answer.status
+    (goes_own _ _ _ _ _ _ _ c.in-Answer.own
     (link_at g.C.Meanings c.write_own.new.client) _ c.write_own.result
     c.loop-member.invariant.way c.in-Answer.ensures.step (same_body _ _ _ _ c.write_own.ensures.same.0) c.write_own.ensures.no_fewer
     (rw c.own_kind.ensures at c.write_own.ensures.written))
