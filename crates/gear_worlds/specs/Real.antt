@@ -19,6 +19,10 @@ pub record Readies {T : Type 0} (before after : WorldCounts) (result : Result T 
   pub steady : IsOk result → after.failed ≡ before.failed
   pub same : after.out ≡ before.out
 
+-- what a shelf of the real world tells of the segments that it holds: nothing
+abbrev pub untold : Option (List (ℕ × Segment))
+untold = None
+
 abbrev pub shelf_faults : {R F D : Type 0} → RealShelf R F D → ℕ
 shelf_faults (shelf_is.Files shelf) = shelf.failed
 shelf_faults (shelf_is.Dropped shelf) = 0

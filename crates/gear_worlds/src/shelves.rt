@@ -247,17 +247,19 @@ fn write_new<R: Files>(rt: &R, path: &str, text: &[u8]) -> io::Result<()> {
 }
 
 impl<'r, R: Files + Wait + Clock> Shelf for FileShelf<'r, R> {
-    ghost use Rattle.std.specs.Prelude.{◌≡◌, IsErrOf, None, OnOk};
-    ghost use Rattle.jk_io.specs.Told.{HasCause};
-    ghost use Rattle.gear_worlds.specs.Real.{KeepsTrouble, SaysUnkept};
+    ghost use Rattle.std.specs.Prelude.{◌≡◌, [], ◌∷◌, IsErrOf, OnErr, OnOk};
+    ghost use Rattle.jk_io.specs.Told.{HasCause, appended};
+    ghost use Rattle.gear_worlds.specs.Real.{KeepsTrouble, SaysUnkept, untold};
 
-    ghost shelved = { λ _. None };
+    ghost shelved = { λ _. untold };
 
     ghost faults = { λ s. s.failed };
 
     /// It fails for a balancer that has no name here, and where the file can't be made new and written whole. The first such
     /// trouble is kept.
     fn keep(&mut self, lb: u32, segment: Segment) -> Result<(), IoError>
+        ensures kept { OnOk result (untold ≡ appended untold ((lb, segment) ∷ [])) }
+        ensures refused { OnErr result (untold ≡ untold) }
         ensures cause { HasCause self.old.failed self.new.failed result }
         ensures stands { OnOk result (self.new.failed ≡ self.old.failed) }
         ensures wanted { IsErrOf result IoError.NoMemory → self.new.failed ≡ self.old.failed }
@@ -333,15 +335,17 @@ impl<'r, R: Files + Wait + Clock> RealShelf<'r, R> {
 }
 
 impl<'r, R: Files + Wait + Clock> Shelf for RealShelf<'r, R> {
-    ghost use Rattle.std.specs.Prelude.{◌≡◌, IsErrOf, None, OnOk};
-    ghost use Rattle.jk_io.specs.Told.{HasCause};
-    ghost use Rattle.gear_worlds.specs.Real.{KeepsTrouble, shelf_faults, shelf_says, shelf_trouble};
+    ghost use Rattle.std.specs.Prelude.{◌≡◌, [], ◌∷◌, IsErrOf, OnErr, OnOk};
+    ghost use Rattle.jk_io.specs.Told.{HasCause, appended};
+    ghost use Rattle.gear_worlds.specs.Real.{KeepsTrouble, shelf_faults, shelf_says, shelf_trouble, untold};
 
-    ghost shelved = { λ _. None };
+    ghost shelved = { λ _. untold };
 
     ghost faults = { shelf_faults };
 
     fn keep(&mut self, lb: u32, segment: Segment) -> Result<(), IoError>
+        ensures kept { OnOk result (untold ≡ appended untold ((lb, segment) ∷ [])) }
+        ensures refused { OnErr result (untold ≡ untold) }
         ensures cause { HasCause (shelf_faults self.old) (shelf_faults self.new) result }
         ensures stands { OnOk result (shelf_faults self.new ≡ shelf_faults self.old) }
         ensures wanted { IsErrOf result IoError.NoMemory → shelf_faults self.new ≡ shelf_faults self.old }
