@@ -3,7 +3,7 @@ use Rattle.std.proofs.Common.{◌≡◌, ℕ, List, [], ◌++◌, Option, Result
 use Rattle.jk_io.specs.Told.{HasCause, appended, PutsFront}
 use Rattle.jk_io.specs.declared.failures.IoError.{IoError}
 use Rattle.jk_io.proofs.ToldLaws.{appended-appended}
-use Rattle.remarks.specs.Added.{Adds, AddsFor, AddsSaid, AddsSome, AddsText, IsFrontOfText, RemarkOutState}
+use Rattle.remarks.specs.Added.{Adds, AddsSaid, AddsSome, AddsText, IsFrontOfText, RemarkOutState}
 
 -- nothing was added
 pub front_none : (old : Option (List ℕ)) (text : List ℕ) → IsFrontOfText (appended old text) old
@@ -26,11 +26,6 @@ adds_same r old new a b adds same = subst (λ (text : List ℕ). AddsText r old 
 
 pub adds_as : {T : Type 0} (r : Result T IoError) (old new : RemarkOutState) (a b : List ℕ) → Adds r old new a → a ≡ b → Adds r old new b
 adds_as r old new a b adds same = record { added = adds_same r old.said new.said a b adds.added same; cause = adds.cause; steady = adds.steady }
-
--- what is added for a value of which it is known
-pub adds_at : {A T : Type 0} (r : Result T IoError) (old new : RemarkOutState) (known : A → Type 0) (text : A → List ℕ) (a : A) → AddsFor r old new known text → known a
-    → Adds r old new (text a)
-adds_at r old new known text a adds is = record { added = adds.added a is; cause = adds.cause; steady = adds.steady }
 
 -- what a piece holds that was cleared before the text came into it
 pub buffered : (cleared said piece text : List ℕ) → cleared ≡ [] → said ≡ cleared ++ text → piece ≡ said → piece ≡ text

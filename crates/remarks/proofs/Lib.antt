@@ -1,11 +1,6 @@
 pub mod AddedLemmas
-pub mod AgainLemmas
 pub mod FirstLemmas
-pub mod GivenLemmas
-pub mod KindLemmas
-pub mod MapNoticeLemmas
 pub mod NoticeLemmas
 pub mod RefusedLemmas
-pub mod WalkLemmas
 pub mod RoomLemmas
 pub mod SiteLemmas

@@ -33,9 +33,3 @@ pub record AddsSome {T : Type 0} (result : Result T IoError) (old new : RemarkOu
   pub added : AddsSaid result old.said new.said so
   pub cause : HasCause old.faults new.faults result
   pub steady : IsOk result → new.faults ≡ old.faults
-
--- the same of the text that is made of each value of which this is known
-pub record AddsFor {A T : Type 0} (result : Result T IoError) (old new : RemarkOutState) (known : A → Type 0) (text : A → List ℕ) : Type 0 where
-  pub added : (a : A) → known a → AddsText result old.said new.said (text a)
-  pub cause : HasCause old.faults new.faults result
-  pub steady : IsOk result → new.faults ≡ old.faults

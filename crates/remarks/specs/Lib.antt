@@ -1,8 +1,6 @@
 pub mod Added
-pub mod Again
 pub mod Explained
 pub mod Firsts
-pub mod KindTables
 pub mod MapNotices
 pub mod Notices
 pub mod Refused

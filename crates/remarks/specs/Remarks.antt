@@ -1,26 +1,24 @@
 -- The remarks on a site's files that a person reads on standard error: each line that is refused as it stands, with its
 -- mistake, and of files that are accepted, where it is asked for, what has no effect, and that a map has no rule. A file is its
 -- name and its text.
-use Rattle.std.specs.Prelude.{◌≡◌, ◌≤◌, ℕ, Bool, true, false, List, [], ◌++◌, length}
+use Rattle.std.specs.Prelude.{◌≤◌, ℕ, Bool, true, false, List, [], ◌++◌, length}
 use Rattle.site_config.specs.Refusals.{LineRefusal}
-use Rattle.site_config.specs.declared.property.Property.{Property}
-use Rattle.site_config.specs.declared.config.Config.{Config}
 use Rattle.site_mounts.specs.declared.map_note.MapNote.{MapNote}
 use Rattle.site_mounts.specs.declared.rule.Rule.{Rule}
 use Rattle.site_reports.specs.Found.{workers_refusal}
 use Rattle.site_reports.specs.declared.found.SiteFound.{SiteFound}
 use Rattle.site_reports.specs.declared.found.SiteFound.TheVariants as found
+use Rattle.site_reports.specs.declared.no_effect.WorkersNote.{WorkersNote}
 use Rattle.remarks.specs.declared.site_file.SiteFile.{SiteFile}
-use Rattle.remarks.specs.Again.{ReadsProperties}
 use Rattle.remarks.specs.Explained.{explained_workers}
 use Rattle.remarks.specs.MapNotices.{empty_words, map_notices}
-use Rattle.remarks.specs.Notices.{notices, site_kinds}
+use Rattle.remarks.specs.Notices.{notices}
 use Rattle.remarks.specs.Refused.{is_refused_by_line, refused_lines, wrong_line, wrong_rule}
 
--- of the lines of a workers.properties that gives this configuration
-abbrev pub workers_remarks : (effects : Bool) → (file : List ℕ) → Config → List Property → List ℕ
-workers_remarks true file c ps = notices file (site_kinds c) ps
-workers_remarks false file c ps = []
+-- of an accepted workers.properties with these notes
+abbrev pub workers_remarks : (effects : Bool) → (file : List ℕ) → List WorkersNote → List ℕ
+workers_remarks true file notes = notices file notes
+workers_remarks false file notes = []
 
 -- of a map with these notes and rules: what of it has no effect, and what it means where it has no rule
 abbrev pub effect_words : (file : List ℕ) → List MapNote → List Rule → List ℕ
@@ -40,29 +38,14 @@ abbrev pub workers_refusals : (workers : List ℕ × List ℕ) → LineRefusal �
 workers_refusals workers r =
     refused_lines wrong_line workers.0 workers.1 ++ together (is_refused_by_line wrong_line workers.1) workers r
 
--- what the lines of an accepted workers.properties say; of a refused one nothing is asked
-abbrev pub Lines : SiteFound → List Property → Type 0
-Lines (found.Workers w) ps = ReadsProperties w.text ps
-Lines (found.Site s) ps = ReadsProperties s.workers.text ps
-Lines (found.WorkersRefused r) ps = ps ≡ []
-Lines (found.MapRefused r) ps = ReadsProperties r.workers.text ps
-
--- of files with these names, which a command judged, by what the lines of the first say: why the first refused one is refused,
--- and what in accepted ones has no effect
-abbrev pub remarks_of : (effects : Bool) → (workers map : List ℕ) → SiteFound → List Property → List ℕ
-remarks_of effects workers map (found.Workers w) ps = workers_remarks effects workers w.config ps
-remarks_of effects workers map (found.Site s) ps =
-    workers_remarks effects workers s.workers.config ps ++ rules_remarks effects map s.notes s.rules
-remarks_of effects workers map (found.WorkersRefused r) ps = workers_refusals (workers, r.text) (workers_refusal r)
-remarks_of effects workers map (found.MapRefused r) ps =
-    workers_remarks effects workers r.workers.config ps ++ refused_lines (wrong_rule r.workers.config) map r.text
-
-abbrev pub AreRemarks : (effects : Bool) → (workers map : List ℕ) → SiteFound → (out : List ℕ) → Type 0
-AreRemarks effects workers map f out = (ps : List Property) × Lines f ps × (out ≡ remarks_of effects workers map f ps)
-
--- a file's name and text
-abbrev pub as_file : SiteFile → List ℕ × List ℕ
-as_file file = (file.name.now, file.text.now)
+-- of files with these names, which a command judged: why the first refused one is refused, and what in accepted ones has no
+-- effect, by the notes on them
+abbrev pub remarks_of : (effects : Bool) → (workers map : List ℕ) → SiteFound → List ℕ
+remarks_of effects workers map (found.Workers w) = workers_remarks effects workers w.notes
+remarks_of effects workers map (found.Site s) = workers_remarks effects workers s.workers.notes ++ rules_remarks effects map s.notes s.rules
+remarks_of effects workers map (found.WorkersRefused r) = workers_refusals (workers, r.text) (workers_refusal r)
+remarks_of effects workers map (found.MapRefused r) =
+    workers_remarks effects workers r.workers.notes ++ refused_lines (wrong_rule r.workers.config) map r.text
 
 -- the text is one that a command takes: at most 67,108,864 bytes
 abbrev pub IsShortFile : SiteFile → Type 0

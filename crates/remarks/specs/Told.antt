@@ -10,7 +10,7 @@ use Rattle.remarks.specs.declared.site.SitePlace.{SitePlace}
 use Rattle.remarks.specs.declared.read_file.ReadOutcome.{ReadOutcome}
 use Rattle.remarks.specs.declared.read_file.ReadOutcome.TheVariants as outcome
 use Rattle.site_reports.specs.declared.found.SiteFound.{SiteFound}
-use Rattle.remarks.specs.Remarks.{AreRemarks}
+use Rattle.remarks.specs.Remarks.{remarks_of}
 
 -- the name of the file that was read first
 abbrev pub first_name : List ReadFile → List ℕ
@@ -20,7 +20,7 @@ first_name (read ∷ reads) = read.name
 -- the remarks on what was found of a site whose workers.properties was read first, and its map, if any, after it
 abbrev pub SaysFound : (effects : Bool) → SiteFound → List ReadFile → (said : List ℕ) → Type 0
 SaysFound effects f [] said = said ≡ []
-SaysFound effects f (read ∷ reads) said = AreRemarks effects read.name (first_name reads) f said
+SaysFound effects f (read ∷ reads) said = said ≡ remarks_of effects read.name (first_name reads) f
 
 -- where a command's WORKERS stands among its files, and whether what has no effect is told
 abbrev pub site_place : Option CommandName → Option SitePlace

@@ -1,8 +1,7 @@
 //! Remarks to a person, on a site's files and on a command that ended: the word, the file or the line at fault, why lines are refused,
 //! and what has no effect.
 //!
-//! Source: own rules (docs/FORMATS.md, "What a person is told"); which directives have an effect in mod_jk: its reference,
-//! "workers.properties" and "uriworkermap.properties".
+//! Source: own rules (docs/FORMATS.md, "What a person is told").
 //! Shapes: `KeptFiles` and `CountedInput` go round the files and the input of a command, and `remarks_on` is called once it
 //! ended, with what the command itself found of a site's files: these are judged there, and here only the lines after the first
 //! refused one. Nothing here changes what the command reads, writes or answers.
@@ -13,14 +12,12 @@
 //! Errors: a write that failed, only where the sink's count of faults rose, and want of memory.
 #![tactic(auto)]
 
-mod again;
 mod asked;
 mod counted_input;
 mod ended;
 mod explain;
 mod input_seen;
 mod kept_files;
-mod kinds;
 mod last_read;
 mod map_effects;
 mod notices;
@@ -28,7 +25,6 @@ mod read_file;
 mod refused;
 mod remark_out;
 mod remarks;
-mod said_lines;
 mod site;
 mod site_effects;
 mod site_file;

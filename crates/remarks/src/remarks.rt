@@ -4,18 +4,13 @@ ghost use Rattle.site_mounts.specs.Lines.{read_text};
 ghost use Rattle.site_reports.specs.Found.{workers_refusal};
 ghost use Rattle.site_reports.specs.declared.found.SiteFound.TheVariants as found;
 ghost use Rattle.remarks.specs.Explained.{explained_workers};
-ghost use Rattle.remarks.specs.KindTables.{IsKindTable};
-ghost use Rattle.remarks.specs.Notices.{kinds_of, notices, site_kinds};
-ghost use Rattle.remarks.specs.Added.{Adds, AddsFor, AddsSome};
-ghost use Rattle.remarks.specs.Again.{ReadsProperties};
+ghost use Rattle.remarks.specs.Added.{Adds};
 ghost use Rattle.remarks.specs.Firsts.{refusal_in};
 ghost use Rattle.remarks.specs.Refused.{refused_lines, wrong_rule};
-ghost use Rattle.remarks.specs.Remarks.{AreRemarks, IsShortFile, remarks_of, workers_refusals, workers_remarks};
+ghost use Rattle.remarks.specs.Remarks.{IsShortFile, remarks_of, workers_refusals, workers_remarks};
 
-use crate::again::line_table;
 use crate::explain::explain_workers;
-use crate::kinds::{KindTable, kind_table, redirect_table};
-use crate::notices::{LineTables, put_notices};
+use crate::notices::put_notices;
 use crate::refused::{FirstRefusal, Judge, put_refused};
 use crate::remark_out::RemarkOut;
 use crate::site_effects::effects_on;
@@ -61,28 +56,6 @@ fn put_workers_refusal<O: Sink + Drop>(
     out.put(said.as_slice())
 }
 
-/// Adds what in a workers.properties has no effect.
-pub(crate) fn put_effects<O: Sink + Drop>(
-    alloc: Global,
-    out: &mut RemarkOut<O>,
-    config: &Config,
-    table: &KindTable<'_>,
-    workers: &SiteFile<'_>,
-) -> Result<(), IoError>
-    requires short { IsShortFile workers.now }
-    requires table { IsKindTable table.now (kinds_of config.now) }
-    ensures { AddsFor result out.old out.new (ReadsProperties workers.now.text.now) (notices workers.now.name.now (site_kinds config.now)) }
-{
-    let redirects = redirect_table(alloc, config)?;
-    let lines = line_table(alloc, workers.text)?;
-    let tables = LineTables {
-        kinds: table,
-        redirects: &redirects,
-        lines: &lines,
-    };
-    put_notices(alloc, out, &tables, workers)
-}
-
 /// Adds what is said of a workers.properties that is accepted.
 pub(crate) fn put_workers<O: Sink + Drop>(
     alloc: Global,
@@ -91,17 +64,13 @@ pub(crate) fn put_workers<O: Sink + Drop>(
     workers: &AcceptedWorkers,
     effects: bool,
 ) -> Result<(), IoError>
-    ensures { AddsFor result out.old out.new (ReadsProperties workers.now.text) (workers_remarks effects name.now workers.now.config) }
+    ensures { Adds result out.old out.new (workers_remarks effects name.now workers.now.notes) }
 {
-    if !effects {
-        return Ok(());
+    if effects {
+        put_notices(alloc, out, name, workers.notes.as_slice())
+    } else {
+        Ok(())
     }
-    let table = kind_table(alloc, &workers.config)?;
-    let file = SiteFile {
-        name,
-        text: workers.text.as_slice(),
-    };
-    put_effects(alloc, out, &workers.config, &table, &file)
 }
 
 /// Adds what is said of an accepted workers.properties, and each line of the map that is refused.
@@ -112,7 +81,7 @@ fn put_refused_map<O: Sink + Drop>(
     refused: &RefusedMap,
     effects: bool,
 ) -> Result<(), IoError>
-    ensures { AddsFor result out.old out.new (ReadsProperties refused.now.workers.text)
+    ensures { Adds result out.old out.new
         (remarks_of effects names.now.workers.now names.now.map.now (found.MapRefused refused.now)) }
 {
     put_workers(alloc, out, names.workers, &refused.workers, effects)?;
@@ -135,7 +104,7 @@ fn put_accepted<O: Sink + Drop>(
     site: &AcceptedSite,
     effects: bool,
 ) -> Result<(), IoError>
-    ensures { AddsFor result out.old out.new (ReadsProperties site.now.workers.text)
+    ensures { Adds result out.old out.new
         (remarks_of effects names.now.workers.now names.now.map.now (found.Site site.now)) }
 {
     if effects {
@@ -178,7 +147,7 @@ pub fn site_remarks<O: Sink + Drop>(
     found: &SiteFound,
     effects: bool,
 ) -> Result<(), IoError>
-    ensures { AddsSome result out.old out.new (AreRemarks effects names.now.workers.now names.now.map.now found.now) }
+    ensures { Adds result out.old out.new (remarks_of effects names.now.workers.now names.now.map.now found.now) }
 {
     match found {
         SiteFound::Workers(workers) => put_workers(alloc, out, names.workers, workers, effects),

@@ -1,8 +1,7 @@
 //! Remarks on the lines of a site's two files that have no effect, where both are accepted.
 ghost use Rattle.std.specs.Prelude.{true};
 ghost use Rattle.site_reports.specs.declared.found.SiteFound.TheVariants as found;
-ghost use Rattle.remarks.specs.Added.{AddsFor};
-ghost use Rattle.remarks.specs.Again.{ReadsProperties};
+ghost use Rattle.remarks.specs.Added.{Adds};
 ghost use Rattle.remarks.specs.Remarks.{remarks_of};
 
 use crate::map_effects::put_map_effects;
@@ -20,8 +19,7 @@ pub fn effects_on<O: Sink + Drop>(
     names: &SiteNames<'_>,
     site: &AcceptedSite,
 ) -> Result<(), IoError>
-    ensures { AddsFor result out.old out.new (ReadsProperties site.now.workers.text)
-        (remarks_of true names.now.workers.now names.now.map.now (found.Site site.now)) }
+    ensures { Adds result out.old out.new (remarks_of true names.now.workers.now names.now.map.now (found.Site site.now)) }
 {
     put_workers(alloc, out, names.workers, &site.workers, true)?;
     put_map_effects(alloc, out, names.map, site.notes.as_slice(), &site.rules)

@@ -1,7 +1,8 @@
 -- The judgement of a workers.properties alone, of this text.
-use Rattle.std.specs.Prelude.{◌≡◌, ℕ, List}
+use Rattle.std.specs.Prelude.{ℕ, List}
 use Rattle.site_config.specs.Refusals.{LineRefusal}
 use Rattle.site_workers.specs.Site.{IsConfig, IsRefusedText}
+use Rattle.site_reports.specs.Notes.{AreNotes}
 use Rattle.site_reports.specs.RefusedParts.{IsRefusedPart}
 use Rattle.site_reports.specs.declared.judging.Judgement.{Judgement}
 use Rattle.site_reports.specs.declared.judging.Judgement.TheVariants as judgement
@@ -12,5 +13,5 @@ abbrev pub IsRefusedAs : (text : List ℕ) → RefusedPart → LineRefusal → T
 IsRefusedAs text part r = IsRefusedText text r × IsRefusedPart part text r
 
 abbrev pub IsJudgement : (text : List ℕ) → Judgement → Type 0
-IsJudgement text (judgement.Accepted config) = IsConfig text config
+IsJudgement text (judgement.Accepted config notes) = IsConfig text config × AreNotes text config notes
 IsJudgement text (judgement.Refused line code part) = IsRefusedAs text part (record { line = line; code = code })

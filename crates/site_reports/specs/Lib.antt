@@ -1,9 +1,12 @@
+pub mod Again
 pub mod ConfigText
 pub mod Found
 pub mod Judgements
+pub mod KindTables
 pub mod LimitLines
 pub mod Matches
 pub mod MemberLines
+pub mod Notes
 pub mod PathLines
 pub mod Readings
 pub mod RefusedParts

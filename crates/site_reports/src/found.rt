@@ -5,9 +5,11 @@ ghost use Rattle.site_config.specs.Refusals.{LineRefusal};
 ghost use Rattle.site_mounts.specs.Lines.{read_text};
 ghost use Rattle.site_mounts.specs.MapNotes.{map_notes};
 ghost use Rattle.site_mounts.specs.Sites.{stands_in};
+ghost use Rattle.site_reports.specs.Notes.{AreNotes};
 ghost use Rattle.site_reports.specs.RefusedParts.{IsRefusedPart};
 ghost use Rattle.site_workers.specs.Site.{IsConfig, IsRefusedText};
 
+use crate::no_effect::WorkersNoteList;
 use crate::refused_part::RefusedPart;
 use jk_io::{Bytes, ListOf};
 use site_config::Config;
@@ -18,8 +20,11 @@ use site_mounts::{MapNote, UriMap};
 pub struct AcceptedWorkers {
     pub text: Bytes,
     pub config: Config,
+    /// What of it has no effect, or another one than in mod_jk.
+    pub notes: WorkersNoteList,
     pub ghost short: { length text ≤ MAX_INPUT_BYTES },
     pub ghost gives: { ∥ IsConfig text config ∥₁ },
+    pub ghost noted: { AreNotes text config notes },
 }
 
 /// The files of a site, both of which are accepted.

@@ -7,6 +7,8 @@ ghost use Rattle.site_reports.specs.Found.{FindsMap, FindsSite, FindsWorkers, is
 ghost use Rattle.site_reports.specs.Judgements.{IsJudgement};
 
 use crate::found::{AcceptedSite, AcceptedWorkers, RefusedMap, RefusedWorkers, SiteFound};
+use crate::no_effect::WorkersNoteList;
+use crate::notes::notes_of;
 use crate::refused_part::RefusedPart;
 use jk_io::{Bytes, NoMemory};
 use site_config::{Config, PropertyLine, PropsError, read_entries};
@@ -29,7 +31,10 @@ impl SiteFound {
 /// A workers.properties as it was judged.
 #[derive(Drop)]
 enum Judgement {
-    Accepted(Config),
+    Accepted {
+        config: Config,
+        notes: WorkersNoteList,
+    },
     Refused {
         line: u32,
         code: u8,
@@ -37,13 +42,16 @@ enum Judgement {
     },
 }
 
-/// Judges the workers of lines, each of which passes by itself.
+/// Judges the workers of lines, each of which passes by itself, and notes what has no effect.
 fn judge_lines(alloc: Global, lines: &[PropertyLine<'_>]) -> Result<Judgement, NoMemory>
     requires { length lines.now < 2 ^ 32 }
     ensures { (text : List ℕ) → read_text true text ≡ Ok (as_properties lines.now) → IfOk result (IsJudgement text) }
 {
     match configure(alloc, lines) {
-        Ok(config) => Ok(Judgement::Accepted(config)),
+        Ok(config) => {
+            let notes = notes_of(alloc, &config, lines)?;
+            Ok(Judgement::Accepted { config, notes })
+        }
         Err(PropsError::Refused { line, code }) => Ok(Judgement::Refused {
             line,
             code,
@@ -75,7 +83,14 @@ pub fn judge_workers(alloc: Global, text: Bytes) -> Result<SiteFound, NoMemory>
     ensures { IfOk result (FindsWorkers text) }
 {
     match judge_text(alloc, text.as_slice())? {
-        Judgement::Accepted(config) => Ok(SiteFound::Workers(AcceptedWorkers { text, config })),
+        Judgement::Accepted { config, notes } => {
+            let accepted = AcceptedWorkers {
+                text,
+                config,
+                notes,
+            };
+            Ok(SiteFound::Workers(accepted))
+        }
         Judgement::Refused { line, code, part } => {
             let refused = RefusedWorkers {
                 text,

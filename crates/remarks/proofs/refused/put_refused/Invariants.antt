@@ -1,4 +1,4 @@
-use Rattle.std.proofs.Common.{◌≡◌, ◌≤◌, ◌+◌, ℕ, List, Some, length}
+use Rattle.std.proofs.Common.{◌≡◌, ◌≤◌, ◌+◌, Some, length}
 use Rattle.jk_io.specs.Told.{appended}
 use Rattle.site_config.specs.Lines.{lines}
 use Rattle.remarks.specs.Firsts.{refusal_in}

@@ -1,4 +1,4 @@
-use Rattle.std.proofs.Common.{◌≡◌, ◌∙◌, ap, Some, sym}
+use Rattle.std.proofs.Common.{◌∙◌, ap}
 use Rattle.site_config.specs.declared.config.Config.{Config}
 use Rattle.remarks.specs.Firsts.{refusal_in}
 use Rattle.remarks.specs.Refused.{first_in, refused_lines, rule_code, wrong_rule}

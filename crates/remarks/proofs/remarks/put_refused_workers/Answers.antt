@@ -1,4 +1,4 @@
-use Rattle.std.proofs.Common.{◌≡◌, ◌∙◌, ℕ, List, Some, ap, subst}
+use Rattle.std.proofs.Common.{◌∙◌, ℕ, List, Some, ap, subst}
 use Rattle.site_reports.specs.Found.{workers_refusal}
 use Rattle.site_reports.specs.RefusedParts.{IsRefusedPart}
 use Rattle.site_reports.specs.declared.refused_part.RefusedPart.{RefusedPart}

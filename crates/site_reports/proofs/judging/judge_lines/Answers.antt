@@ -1,7 +1,8 @@
-use Rattle.std.proofs.Common.{◌≡◌, inr, refl}
+use Rattle.std.proofs.Common.{inr, refl}
 use Rattle.site_config.specs.Entries.{as_properties}
 use Rattle.site_config.specs.Refusals.{LineRefusal}
 use Rattle.site_workers.specs.Site.{RefusesWorkers}
+use Rattle.site_reports.proofs.NoteLemmas.{are_notes}
 use Rattle.site_reports.proofs.judging.judge_lines.Goals as goal
 
 pub returns-in-Err-Refused : goal.returns-in-Err-Refused
@@ -9,4 +10,7 @@ returns-in-Err-Refused c = λ text read.
     let ps = as_properties c.args.lines.now in
     let r : LineRefusal = record { line = c.in-Err-Refused.line; code = c.in-Err-Refused.code } in
     let stops : RefusesWorkers ps r = rw c.in-Err-Refused.field-0-is at c.in-Err-Refused.ensures.refused in
-    (inr (ps, read, stops), rw read refl)
+    rw c.in-Err-Refused.field-0-is (inr (ps, read, stops), rw read refl)
+
+pub returns-in_ok-notes-in-Ok : goal.returns-in_ok-notes-in-Ok
+returns-in_ok-notes-in-Ok c = λ text read. (c.in-Ok.ensures.ok text read, are_notes text c.in-Ok.config (as_properties c.args.lines.now) c.in_ok-notes-in-Ok.notes read c.in_ok-notes-in-Ok.ensures)

@@ -1,8 +1,0 @@
-use Rattle.std.proofs.Common.{◌≡◌, take}
-use Rattle.std.specs.List.{flat_map}
-use Rattle.remarks.specs.KindTables.{as_kinds}
-use Rattle.remarks.specs.Notices.{redirected_kinds}
-use Rattle.remarks.proofs.kinds.redirecting.Given as goal
-
-abbrev pub invariant-loop-lb : goal.invariant-loop-lb
-invariant-loop-lb l = as_kinds l.out.items ≡ flat_map redirected_kinds (take l.lb-index l.lbs)
