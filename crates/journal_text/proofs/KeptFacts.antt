@@ -1,12 +1,9 @@
--- Entries that a segment may keep, with a further one.
-use Rattle.std.proofs.Common.{◌≡◌, ℕ, suc, zero, ◌⊎◌, List, [], ◌∷◌, ◌++◌, All, Some, None, inl, inr, ⊎_elim, subst}
+-- Entries that a segment may keep: none, those before others, and with a further one.
+use Rattle.std.proofs.Common.{◌≡◌, ℕ, suc, zero, ◌⊎◌, List, [], ◌∷◌, ◌++◌, Some, None, inl, inr, ⊎_elim, subst}
 use Rattle.std.specs.Prelude.{slice_get}
-use Rattle.std.proofs.lemmas.List.Elements.{All-nil, All-cons, All-append}
 use Rattle.lb_model.specs.Segments.{AreKeptEntries, IsKeptEntry}
 use Rattle.lb_model.specs.declared.journal.Entry.{Entry}
 use Rattle.journal_text.specs.Ranges.{HasTicket, IsKeptCall}
-use Rattle.journal_text.specs.Kept.{IsKeptSegment}
-use Rattle.journal_text.specs.declared.counted.Counted.{Counted}
 
 kept_entry : (v : ℕ) (e : Entry) → HasTicket e.seq e.answer → IsKeptCall v e.call → IsKeptEntry v e
 kept_entry v e ticket asked = record {
@@ -28,5 +25,13 @@ kept_more v entries e h ticket asked = record {
   at = λ i x found. ⊎_elim (λ former. h.at i x former) (λ same. subst (IsKeptEntry v) same (kept_entry v e ticket asked)) (at_end entries e i x found);
 }
 
-pub done_more : (done : List Counted) (c : Counted) → All IsKeptSegment done → IsKeptSegment c → All IsKeptSegment (done ++ c ∷ [])
-done_more done c h k = All-append IsKeptSegment done (c ∷ []) h (All-cons IsKeptSegment c [] k (All-nil IsKeptSegment))
+pub kept_none : (v : ℕ) → AreKeptEntries v []
+kept_none v = record { at = λ i e found. absurd (let none : None ≡ Some e = found in cc) }
+
+before : (xs ys : List Entry) (i : ℕ) (e : Entry) → slice_get xs i ≡ Some e → slice_get (xs ++ ys) i ≡ Some e
+before [] ys i e h = absurd (let none : None ≡ Some e = h in cc)
+before (x ∷ xs) ys zero e h = h
+before (x ∷ xs) ys (suc i) e h = before xs ys i e h
+
+pub kept_before : (v : ℕ) (xs ys : List Entry) → AreKeptEntries v (xs ++ ys) → AreKeptEntries v xs
+kept_before v xs ys h = record { at = λ i e found. h.at i e (before xs ys i e found) }

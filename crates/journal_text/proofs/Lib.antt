@@ -1,3 +1,4 @@
+pub mod HeldFacts
 pub mod KeptFacts
 pub mod LineFacts
 pub mod LineLaws
@@ -7,6 +8,7 @@ pub mod OpeningFacts
 pub mod PairFacts
 pub mod ReadingLaws
 pub mod SaidFacts
+pub mod SegmentProps
 pub mod SplitFacts
 pub mod WideLemmas
 pub mod WordFacts

@@ -8,20 +8,24 @@ use Rattle.std.proofs.lemmas.List.Folds.{list_all-append}
 use Rattle.std.proofs.lemmas.List.Splits.{length-slice_split}
 use Rattle.std.proofs.lemmas.Option.{slice_get-get_or}
 use Rattle.lb_model.specs.Tickets.{Ticket}
+use Rattle.lb_model.specs.Segments.{AreKeptEntries}
 use Rattle.lb_model.specs.Validity.{IsOpening, ShowsMember}
 use Rattle.lb_model.specs.declared.journal.Entry.{Entry}
 use Rattle.lb_model.specs.declared.member.MemberConfig.{MemberConfig}
 use Rattle.lb_model.specs.declared.opening.Opening.{Opening}
+use Rattle.lb_model.specs.declared.segment.Segment.{Segment}
 use Rattle.lb_model.specs.declared.view.MemberRow.{MemberRow}
 use Rattle.play_script.specs.Parts.{parts_of}
 use Rattle.journal_text.specs.Lines.{joined, line_text, line_words, lines_text, spaced}
 use Rattle.journal_text.specs.Ranges.{FitsLine}
 use Rattle.journal_text.specs.declared.line.Line.{Line}
 use Rattle.journal_text.specs.declared.line.Line.TheVariants as line
+use Rattle.journal_text.proofs.KeptFacts.{kept_before, kept_none}
 use Rattle.journal_text.proofs.LineLaws.{line_back, line_graphic}
+use Rattle.journal_text.proofs.SegmentProps.{opening_valid, same_segment}
 use Rattle.journal_text.proofs.SplitFacts.{AreGraphic, IsGraphic}
-use Rattle.journal_text.specs.Openings.{AreCounted, IsOpened, row_of}
-use Rattle.journal_text.specs.Reading.{TextOutcome, ReadsLines, TakesAt, TakesText, headed, is_full, opened, readable, unreadable, with_member, with_ticket}
+use Rattle.journal_text.specs.Openings.{AreCounted, Begins, IsOpened, row_of}
+use Rattle.journal_text.specs.Reading.{TextOutcome, ReadsLines, TakesAt, TakesText, headed, in_body, is_full, readable, rules_at, unreadable, with_entry, with_member, with_ticket}
 use Rattle.journal_text.specs.SegmentText.{balancer_values, beginning, entry_lines, lease_lines, member_line, member_lines, member_values, opening_lines}
 use Rattle.journal_text.specs.Written.{AllFit, CanFollow, CanStand, lines_of, texts_of}
 use Rattle.journal_text.specs.declared.counted.Counted.{Counted}
@@ -95,11 +99,13 @@ run_lines : (rules : ℕ) (r m q : Reader) (xs ys : List Line) → Run r (texts 
 run_lines rules r m q xs ys h k =
     subst (λ ts. Run r ts q) (sym (texts_append rules xs ys)) (run_append r m q (texts rules xs) (texts rules ys) h k)
 
-take_line : (r : Reader) (l : Line) (m : Reader) → FitsLine r.rules l → TakesAt r r.place l (Some m) → TakesText r (line_text r.rules l) (Some m)
+take_line : (r : Reader) (l : Line) (m : Reader) → FitsLine (rules_at r.place) l → TakesAt r.done r.place l (Some m)
+    → TakesText r (line_text (rules_at r.place) l) (Some m)
 take_line r l m fits takes =
-    subst (λ o. MatchOption o (Some m ≡ None) (λ x. TakesAt r r.place x (Some m))) (sym (line_back r.rules l fits)) takes
+    subst (λ o. MatchOption o (Some m ≡ None) (λ x. TakesAt r.done r.place x (Some m))) (sym (line_back (rules_at r.place) l fits)) takes
 
-run_one : (r : Reader) (l : Line) (m : Reader) → FitsLine r.rules l → TakesAt r r.place l (Some m) → Run r (texts r.rules (l ∷ [])) m
+run_one : (r : Reader) (l : Line) (m : Reader) → FitsLine (rules_at r.place) l → TakesAt r.done r.place l (Some m)
+    → Run r (texts (rules_at r.place) (l ∷ [])) m
 unfolding Run texts
 run_one r l m fits takes = (m, take_line r l m fits takes, refl)
 
@@ -131,39 +137,39 @@ row_shown : (c : MemberConfig) (r : MemberRow) → ShowsMember c r
 unfolding blank
 row_shown c r h = rw (h.name, h.factor, h.distance, h.activation, h.redirect) refl
 
-members_run : (r : Reader) (d : OpeningDraft) (ms : List MemberConfig) (rs : List MemberRow)
-    → length d.members + length ms ≡ d.values.members → AllShow ms rs → AllFit r.rules (member_lines ms rs)
-    → Run (headed r d) (texts r.rules (member_lines ms rs)) (headed r (drafted d (d.members ++ ms) (d.rows ++ map blank rs) d.out))
+members_run : (v : ℕ) (done : List Counted) (d : OpeningDraft) (ms : List MemberConfig) (rs : List MemberRow)
+    → length d.members + length ms ≡ d.values.members → AllShow ms rs → AllFit v (member_lines ms rs)
+    → Run (headed v done d) (texts v (member_lines ms rs)) (headed v done (drafted d (d.members ++ ms) (d.rows ++ map blank rs) d.out))
 unfolding Run texts drafted AllShow
-members_run r d [] [] n h fits =
-    ap (λ x. headed r (drafted d x d.rows d.out)) (sym (append-nil d.members))
-    ∙ ap (λ x. headed r (drafted d (d.members ++ []) x d.out)) (sym (append-nil d.rows))
-members_run r d [] (w ∷ rs) n h fits = absurd h
-members_run r d (c ∷ ms) [] n h fits = absurd h
-members_run r d (c ∷ ms) (w ∷ rs) n h fits =
+members_run v done d [] [] n h fits =
+    ap (λ x. headed v done (drafted d x d.rows d.out)) (sym (append-nil d.members))
+    ∙ ap (λ x. headed v done (drafted d (d.members ++ []) x d.out)) (sym (append-nil d.rows))
+members_run v done d [] (w ∷ rs) n h fits = absurd h
+members_run v done d (c ∷ ms) [] n h fits = absurd h
+members_run v done d (c ∷ ms) (w ∷ rs) n h fits =
     let d' = with_member d c.name c.route (member_values c w) in
     let room : is_full d ≡ false = ne_eqb (length d.members) d.values.members (λ e. omega (arith, n, e)) in
-    let step : TakesText (headed r d) (line_text r.rules (member_line c w)) (Some (headed r d')) =
-    take_line (headed r d) (member_line c w) (headed r d') fits.0 (sym (cond-false (is_full d) None (Some (headed r d')) room)) in
+    let step : TakesText (headed v done d) (line_text v (member_line c w)) (Some (headed v done d')) =
+    take_line (headed v done d) (member_line c w) (headed v done d') fits.0 (sym (cond-false (is_full d) None (Some (headed v done d')) room)) in
     let more : length (d.members ++ c ∷ []) + length ms ≡ d.values.members = omega (arith, n, length-append d.members (c ∷ [])) in
     let members : (d.members ++ c ∷ []) ++ ms ≡ d.members ++ c ∷ ms = append_assoc d.members (c ∷ []) ms in
     let rows : (d.rows ++ row_of c.name (member_values c w) ∷ []) ++ map blank rs ≡ d.rows ++ blank w ∷ map blank rs =
     append_assoc d.rows (row_of c.name (member_values c w) ∷ []) (map blank rs)
     ∙ ap (λ x. d.rows ++ x ∷ map blank rs) (row_shown c w h.0) in
-    let end = ap (λ x. headed r (drafted d x ((d.rows ++ row_of c.name (member_values c w) ∷ []) ++ map blank rs) d.out)) members
-    ∙ ap (λ x. headed r (drafted d (d.members ++ c ∷ ms) x d.out)) rows in
-    (headed r d', step, subst (λ q. Run (headed r d') (texts r.rules (member_lines ms rs)) q) end (members_run r d' ms rs more h.1 fits.1))
+    let end = ap (λ x. headed v done (drafted d x ((d.rows ++ row_of c.name (member_values c w) ∷ []) ++ map blank rs) d.out)) members
+    ∙ ap (λ x. headed v done (drafted d (d.members ++ c ∷ ms) x d.out)) rows in
+    (headed v done d', step, subst (λ q. Run (headed v done d') (texts v (member_lines ms rs)) q) end (members_run v done d' ms rs more h.1 fits.1))
 
-leases_run : (r : Reader) (d : OpeningDraft) (out : List Ticket) → is_full d ≡ true → AllFit r.rules (lease_lines out)
-    → Run (headed r d) (texts r.rules (lease_lines out)) (headed r (drafted d d.members d.rows (d.out ++ out)))
+leases_run : (v : ℕ) (done : List Counted) (d : OpeningDraft) (out : List Ticket) → is_full d ≡ true → AllFit v (lease_lines out)
+    → Run (headed v done d) (texts v (lease_lines out)) (headed v done (drafted d d.members d.rows (d.out ++ out)))
 unfolding Run texts drafted
-leases_run r d [] full fits = ap (λ x. headed r (drafted d d.members d.rows x)) (sym (append-nil d.out))
-leases_run r d (x ∷ out) full fits =
+leases_run v done d [] full fits = ap (λ x. headed v done (drafted d d.members d.rows x)) (sym (append-nil d.out))
+leases_run v done d (x ∷ out) full fits =
     let d' = with_ticket d x.0 x.1 in
-    let step : TakesText (headed r d) (line_text r.rules (line.Lease x.0 x.1)) (Some (headed r d')) =
-    take_line (headed r d) (line.Lease x.0 x.1) (headed r d') fits.0 (sym (cond-true (is_full d) (Some (headed r d')) None full)) in
-    let end = ap (λ y. headed r (drafted d d.members d.rows y)) (append_assoc d.out (x ∷ []) out) in
-    (headed r d', step, subst (λ q. Run (headed r d') (texts r.rules (lease_lines out)) q) end (leases_run r d' out full fits.1))
+    let step : TakesText (headed v done d) (line_text v (line.Lease x.0 x.1)) (Some (headed v done d')) =
+    take_line (headed v done d) (line.Lease x.0 x.1) (headed v done d') fits.0 (sym (cond-true (is_full d) (Some (headed v done d')) None full)) in
+    let end = ap (λ y. headed v done (drafted d d.members d.rows y)) (append_assoc d.out (x ∷ []) out) in
+    (headed v done d', step, subst (λ q. Run (headed v done d') (texts v (lease_lines out)) q) end (leases_run v done d' out full fits.1))
 
 nth : {X : Type 0} (xs : List X) (m : ℕ) → m < length xs → (x : X) × (slice_get xs m ≡ Some x)
 nth [] m h = absurd (omega (arith, h))
@@ -199,72 +205,82 @@ fits_split : (rules : ℕ) (xs ys : List Line) → AllFit rules (xs ++ ys) → A
 fits_split rules [] ys h = (tt, h)
 fits_split rules (x ∷ xs) ys h = let parts = fits_split rules xs ys h.1 in ((h.0, parts.0), parts.1)
 
-opening_run : (v : ℕ) (done : List Counted) (name : List ℕ) (o : Opening) → IsOpening o → AllFit v (opening_lines name o)
-    → Run (record { rules = v; place = place.Ruled; done = done }) (texts v (opening_lines name o))
-    (record { rules = v; place = place.Body name o []; done = done })
-unfolding Run texts drafted before_from
-opening_run v done name o valid fits =
-    let r : Reader = record { rules = v; place = place.Ruled; done = done } in
+-- the segment before its first entry
+without_entries : Segment → Segment
+without_entries s = record { rules = s.rules; opening = s.opening; entries = []; versions = s.versions; valid = s.valid; kept = kept_none s.rules }
+
+opening_run : (done : List Counted) (name : List ℕ) (s : Segment) → AllFit s.rules (opening_lines name s.opening)
+    → Run (record { place = place.Ruled s.rules; done = done }) (texts s.rules (opening_lines name s.opening)) (in_body done name (without_entries s))
+unfolding Run texts drafted before_from without_entries
+opening_run done name s fits =
+    let v = s.rules in
+    let o = s.opening in
+    let valid = opening_valid s in
+    let r : Reader = record { place = place.Ruled v; done = done } in
     let d0 : OpeningDraft = record { name = name; values = balancer_values o.config; members = []; rows = []; out = [] } in
     let d1 : OpeningDraft = record { name = name; values = balancer_values o.config; members = o.config.members; rows = map blank o.rows; out = [] } in
     let d2 : OpeningDraft = before_from name o in
+    let begun : Reader = in_body done name (without_entries s) in
     let full : is_full d1 ≡ true = eq-eqb (length o.config.members) (length o.config.members) refl in
     let parts = fits_split v (member_lines o.config.members o.rows) (lease_lines o.out ++ line.From (beginning o) ∷ []) fits.1 in
     let last = fits_split v (lease_lines o.out) (line.From (beginning o) ∷ []) parts.1 in
     let shown = all_show o.config.members o.rows valid.rows.count (λ m c w h k. (valid.rows.row m c w h k).shows) in
-    let first : TakesText r (line_text v (line.Balancer name (balancer_values o.config))) (Some (headed r d0)) =
-    take_line r (line.Balancer name (balancer_values o.config)) (headed r d0) fits.0 refl in
-    let members : Run (headed r d0) (texts v (member_lines o.config.members o.rows)) (headed r d1) =
-    members_run r d0 o.config.members o.rows (omega arith) shown parts.0 in
-    let leases : Run (headed r d1) (texts v (lease_lines o.out)) (headed r d2) = leases_run r d1 o.out full last.0 in
-    let from : Run (headed r d2) (texts v (line.From (beginning o) ∷ [])) (opened r name o) =
-    run_one (headed r d2) (line.From (beginning o)) (opened r name o) last.1.0 (full, o, from_opens name o valid, valid, refl) in (
-      headed r d0,
+    let first : TakesText r (line_text v (line.Balancer name (balancer_values o.config))) (Some (headed v done d0)) =
+    take_line r (line.Balancer name (balancer_values o.config)) (headed v done d0) fits.0 refl in
+    let members : Run (headed v done d0) (texts v (member_lines o.config.members o.rows)) (headed v done d1) =
+    members_run v done d0 o.config.members o.rows (omega arith) shown parts.0 in
+    let leases : Run (headed v done d1) (texts v (lease_lines o.out)) (headed v done d2) = leases_run v done d1 o.out full last.0 in
+    let begins : Begins v d2 (beginning o) (without_entries s) = record { ruled = refl; opening = from_opens name o valid; entries = refl } in
+    let from : Run (headed v done d2) (texts v (line.From (beginning o) ∷ [])) begun =
+    run_one (headed v done d2) (line.From (beginning o)) begun last.1.0 (full, without_entries s, begins, refl) in (
+      headed v done d0,
       first,
-      run_lines v (headed r d0) (headed r d1) (opened r name o) (member_lines o.config.members o.rows) (lease_lines o.out ++ line.From (beginning o) ∷ []) members
-          (run_lines v (headed r d1) (headed r d2) (opened r name o) (lease_lines o.out) (line.From (beginning o) ∷ []) leases from),
+      run_lines v (headed v done d0) (headed v done d1) begun (member_lines o.config.members o.rows) (lease_lines o.out ++ line.From (beginning o) ∷ []) members
+          (run_lines v (headed v done d1) (headed v done d2) begun (lease_lines o.out) (line.From (beginning o) ∷ []) leases from),
     )
 
-entries_run : (r : Reader) (name : List ℕ) (o : Opening) (former entries : List Entry) → AllFit r.rules (entry_lines entries)
-    → Run (record { rules = r.rules; place = place.Body name o former; done = r.done }) (texts r.rules (entry_lines entries))
-    (record { rules = r.rules; place = place.Body name o (former ++ entries); done = r.done })
+entries_run : (done : List Counted) (name : List ℕ) (s t : Segment) (entries : List Entry) → t.rules ≡ s.rules → t.opening ≡ s.opening
+    → t.entries ≡ s.entries ++ entries → AllFit s.rules (entry_lines entries)
+    → Run (in_body done name s) (texts s.rules (entry_lines entries)) (in_body done name t)
 unfolding Run texts
-entries_run r name o former [] fits =
-    ap (λ x. record { rules = r.rules; place = place.Body name o x; done = r.done }) (sym (append-nil former))
-entries_run r name o former (e ∷ entries) fits =
-    let here : Reader = record { rules = r.rules; place = place.Body name o former; done = r.done } in
-    let there : Reader = record { rules = r.rules; place = place.Body name o (former ++ e ∷ []); done = r.done } in
-    let step : TakesText here (line_text r.rules (line.Entry e)) (Some there) = take_line here (line.Entry e) there fits.0 refl in
-    let end = ap (λ (x : List Entry). record { rules = r.rules; place = place.Body name o x; done = r.done }) (append_assoc former (e ∷ []) entries) in
-    (there, step, subst (λ q. Run there (texts r.rules (entry_lines entries)) q) end (entries_run r name o (former ++ e ∷ []) entries fits.1))
+entries_run done name s t [] rules opening is fits =
+    ap (in_body done name) (same_segment s t (sym rules) (sym opening) (sym (is ∙ append-nil s.entries)))
+entries_run done name s t (e ∷ entries) rules opening is fits =
+    let whole : t.entries ≡ (s.entries ++ e ∷ []) ++ entries = is ∙ sym (append_assoc s.entries (e ∷ []) entries) in
+    let all : AreKeptEntries s.rules ((s.entries ++ e ∷ []) ++ entries) =
+    subst (λ (es : List Entry). AreKeptEntries s.rules es) whole (subst (λ (n : ℕ). AreKeptEntries n t.entries) rules t.kept) in
+    let m : Segment = with_entry s e (kept_before s.rules (s.entries ++ e ∷ []) entries all) in
+    let step : TakesText (in_body done name s) (line_text s.rules (line.Entry e)) (Some (in_body done name m)) =
+    take_line (in_body done name s) (line.Entry e) (in_body done name m) fits.0 (kept_before s.rules (s.entries ++ e ∷ []) entries all, refl) in
+    (in_body done name m, step, entries_run done name m t entries rules opening whole fits.1)
 
 -- ---- whole segments, one after the other
 
 segment_run : (former : ℕ) (done : List Counted) (c : Counted) → CanStand former c
-    → Run (record { rules = former; place = place.Outside; done = done }) (texts c.rules (lines_of c))
-    (record { rules = c.rules; place = place.Outside; done = done ++ c ∷ [] })
-unfolding Run texts
+    → Run (record { place = place.Outside former; done = done }) (texts c.segment.rules (lines_of c))
+    (record { place = place.Outside c.segment.rules; done = done ++ c ∷ [] })
+unfolding Run texts without_entries
 segment_run former done c h =
-    let v = c.rules in
-    let o = c.opening in
-    let es = c.entries in
-    let start : Reader = record { rules = former; place = place.Outside; done = done } in
-    let ruled : Reader = record { rules = v; place = place.Ruled; done = done } in
-    let begun : Reader = record { rules = v; place = place.Body c.name o []; done = done } in
-    let whole : Reader = record { rules = v; place = place.Body c.name o es; done = done } in
-    let after : Reader = record { rules = v; place = place.Outside; done = done ++ c ∷ [] } in
-    let parts = fits_split v (opening_lines c.name o) (entry_lines es ++ line.End c.count ∷ []) h.values.1 in
-    let last = fits_split v (entry_lines es) (line.End c.count ∷ []) parts.1 in
+    let s = c.segment in
+    let v = s.rules in
+    let start : Reader = record { place = place.Outside former; done = done } in
+    let ruled : Reader = record { place = place.Ruled v; done = done } in
+    let begun : Reader = in_body done c.name (without_entries s) in
+    let whole : Reader = in_body done c.name s in
+    let after : Reader = record { place = place.Outside v; done = done ++ c ∷ [] } in
+    let parts = fits_split v (opening_lines c.name s.opening) (entry_lines s.entries ++ line.End c.count ∷ []) h.values.1 in
+    let last = fits_split v (entry_lines s.entries) (line.End c.count ∷ []) parts.1 in
     let first : TakesText start (line_text v (line.Rules v)) (Some ruled) =
-    take_line start (line.Rules v) ruled h.values.0 (sym (cond-true (nat_le former v) (Some ruled) None (le-leb former v h.later))) in
-    let entries : Run begun (texts v (entry_lines es)) whole =
-    entries_run begun c.name o [] es last.0 in
+    subst (λ o. MatchOption o (Some ruled ≡ None) (λ x. TakesAt done (place.Outside former) x (Some ruled))) (sym (line_back former (line.Rules v) h.values.0))
+    (sym (cond-true (nat_le former v) (Some ruled) None (le-leb former v h.later))) in
+    let entries : Run begun (texts v (entry_lines s.entries)) whole =
+    entries_run done c.name (without_entries s) s s.entries refl refl refl last.0 in
     let end : Run whole (texts v (line.End c.count ∷ [])) after = run_one whole (line.End c.count) after last.1.0 refl in (
       ruled,
       first,
-      run_lines v ruled begun after (opening_lines c.name o) (entry_lines es ++ line.End c.count ∷ [])
-          (opening_run v done c.name o h.valid parts.0)
-          (run_lines v begun whole after (entry_lines es) (line.End c.count ∷ []) entries end),
+      run_lines v ruled begun after (opening_lines c.name s.opening) (entry_lines s.entries ++ line.End c.count ∷ [])
+          (opening_run done c.name s parts.0)
+          (run_lines v begun whole after (entry_lines s.entries) (line.End c.count ∷ []) entries end),
     )
 
 reads_step : (r m : Reader) (t : List ℕ) (ls : List (List ℕ)) (o : TextOutcome) (k : ℕ) → TakesText r t (Some m) → 0 < length ls
@@ -283,23 +299,23 @@ some_parts : (text : List ℕ) → 0 < length (parts_of 10 text)
 some_parts text = omega (arith, length-slice_split (λ b. b == 10) text)
 
 reads_all : (cs : List Counted) (former : ℕ) (done : List Counted) → CanFollow former cs → 0 < length (done ++ cs) → (k : ℕ)
-    → ReadsLines (record { rules = former; place = place.Outside; done = done }) k (parts_of 10 (texts_of cs)) (readable (done ++ cs))
+    → ReadsLines (record { place = place.Outside former; done = done }) k (parts_of 10 (texts_of cs)) (readable (done ++ cs))
 reads_all [] former done h some k =
     ap readable (append-nil done) ∙ sym (cond-true (nat_lt 0 (length done)) (readable done) (unreadable k) (lt-ltb 0 (length done) (omega (arith, some, length-append done []))))
 reads_all (c ∷ cs) former done h some k =
-    let v = c.rules in
+    let v = c.segment.rules in
     let lines = lines_of c in
-    let next : Reader = record { rules = v; place = place.Outside; done = done ++ c ∷ [] } in
+    let next : Reader = record { place = place.Outside v; done = done ++ c ∷ [] } in
     let joint : (done ++ c ∷ []) ++ cs ≡ done ++ c ∷ cs = append_assoc done (c ∷ []) cs in
     let later : (n : ℕ) → ReadsLines next n (parts_of 10 (texts_of cs)) (readable (done ++ c ∷ cs)) =
     λ n. subst (λ x. ReadsLines next n (parts_of 10 (texts_of cs)) (readable x)) joint
     (reads_all cs v (done ++ c ∷ []) h.1 (omega (arith, length-append (done ++ c ∷ []) cs, length-append done (c ∷ []))) n) in
     let cut = lines_cut v lines (texts_of cs) h.0.values in
-    subst (λ ps. ReadsLines (record { rules = former; place = place.Outside; done = done }) k ps (readable (done ++ c ∷ cs))) (sym cut)
-    (reads_run (texts v lines) (record { rules = former; place = place.Outside; done = done }) next (parts_of 10 (texts_of cs)) (readable (done ++ c ∷ cs))
+    subst (λ ps. ReadsLines (record { place = place.Outside former; done = done }) k ps (readable (done ++ c ∷ cs))) (sym cut)
+    (reads_run (texts v lines) (record { place = place.Outside former; done = done }) next (parts_of 10 (texts_of cs)) (readable (done ++ c ∷ cs))
     (some_parts (texts_of cs)) (segment_run former done c h.0) later k)
 
 -- segments that a text can hold are read from their texts
 pub written_back : (c : Counted) (cs : List Counted) → CanFollow 1 (c ∷ cs)
-    → ReadsLines (record { rules = 1; place = place.Outside; done = [] }) 1 (parts_of 10 (texts_of (c ∷ cs))) (readable (c ∷ cs))
+    → ReadsLines (record { place = place.Outside 1; done = [] }) 1 (parts_of 10 (texts_of (c ∷ cs))) (readable (c ∷ cs))
 written_back c cs h = reads_all (c ∷ cs) 1 [] h (omega arith) 1

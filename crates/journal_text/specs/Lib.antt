@@ -1,5 +1,4 @@
 pub mod Calls
-pub mod Kept
 pub mod Lines
 pub mod Names
 pub mod Openings

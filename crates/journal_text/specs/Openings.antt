@@ -1,9 +1,10 @@
 -- The opening that the lines before an entry say, and whether a segment may begin with it.
-use Rattle.std.specs.Prelude.{◌≡◌, ℕ, ◌<◌, ◌≤◌, ◌==◌, List, length, count_by, slice_index_or}
+use Rattle.std.specs.Prelude.{◌≡◌, ℕ, ◌<◌, ◌≤◌, ◌==◌, List, [], length, count_by, slice_index_or}
 use Rattle.lb_model.specs.Tickets.{Ticket}
 use Rattle.lb_model.specs.declared.config.LbConfig.{LbConfig}
 use Rattle.lb_model.specs.declared.member.MemberConfig.{MemberConfig}
 use Rattle.lb_model.specs.declared.opening.Opening.{Opening}
+use Rattle.lb_model.specs.declared.segment.Segment.{Segment}
 use Rattle.lb_model.specs.declared.view.MemberRow.{MemberRow}
 use Rattle.journal_text.specs.declared.line.Beginning.{Beginning}
 use Rattle.journal_text.specs.declared.line.MemberValues.{MemberValues}
@@ -59,3 +60,9 @@ pub record IsOpened (d : OpeningDraft) (b : Beginning) (o : Opening) : Type 0 wh
   pub at : o.at ≡ b.at
   pub maintained : o.maintained ≡ b.maintained
   pub chosen : o.chosen ≡ b.chosen
+
+-- a segment of these rules that begins with the opening that the lines say, and has no entries yet
+pub record Begins (rules : ℕ) (d : OpeningDraft) (b : Beginning) (s : Segment) : Type 0 where
+  pub ruled : s.rules ≡ rules
+  pub opening : IsOpened d b s.opening
+  pub entries : s.entries ≡ []

@@ -1,15 +1,15 @@
 -- How a text is read, line by line: where its reader stands, and what each line makes of that.
 use Rattle.std.specs.Prelude.{◌≡◌, ℕ, ◌+◌, ◌==◌, ◌&&◌, Bool, true, false, nat_le, nat_lt, List, [], ◌∷◌, ◌++◌, length, Option, Some, None, Result, Ok, Err, MatchOption, if◌then◌else◌}
 use Rattle.lb_model.specs.declared.journal.Entry.{Entry}
-use Rattle.lb_model.specs.declared.opening.Opening.{Opening}
-use Rattle.lb_model.specs.Validity.{IsOpening}
+use Rattle.lb_model.specs.declared.segment.Segment.{Segment}
+use Rattle.lb_model.specs.Segments.{AreKeptEntries}
 use Rattle.play_script.specs.Parts.{parts_of}
 use Rattle.journal_text.specs.Readings.{line_of}
 use Rattle.journal_text.specs.declared.line.Beginning.{Beginning}
 use Rattle.journal_text.specs.declared.line.Line.{Line}
 use Rattle.journal_text.specs.declared.line.Line.TheVariants as line
 use Rattle.journal_text.specs.declared.line.MemberValues.{MemberValues}
-use Rattle.journal_text.specs.Openings.{IsOpened, config_of, row_of}
+use Rattle.journal_text.specs.Openings.{Begins, config_of, row_of}
 use Rattle.journal_text.specs.declared.counted.Counted.{Counted}
 use Rattle.journal_text.specs.declared.draft.OpeningDraft.{OpeningDraft}
 use Rattle.journal_text.specs.declared.reader.TextPlace.{TextPlace}
@@ -18,16 +18,26 @@ use Rattle.journal_text.specs.declared.reader.Reader.{Reader}
 use Rattle.journal_text.specs.declared.text_error.TextError.{TextError}
 use Rattle.journal_text.specs.declared.text_error.TextError.TheVariants as error
 
--- Between segments: one of rules 1 doesn't follow one of rules 2.
-abbrev pub begun : Reader → Line → Option Reader
-begun r (line.Rules v) = if nat_le r.rules v then Some (record { rules = v; place = place.Ruled; done = r.done }) else None
-begun r other = None
+-- The rules of the present segment; between segments those of the last one.
+abbrev pub rules_at : TextPlace → ℕ
+rules_at (place.Outside former) = former
+rules_at (place.Ruled rules) = rules
+rules_at (place.Heading rules d) = rules
+rules_at (place.Body name s) = s.rules
 
--- Behind the line of the rules: the balancer.
-abbrev pub named : Reader → Line → Option Reader
-named r (line.Balancer name values) =
-    Some (record { rules = r.rules; place = place.Heading (record { name = name; values = values; members = []; rows = []; out = [] }); done = r.done })
-named r other = None
+-- Between segments: one of rules 1 doesn't follow one of rules 2.
+abbrev pub begun : (former : ℕ) → (done : List Counted) → Line → Option Reader
+begun former done (line.Rules v) = if nat_le former v then Some (record { place = place.Ruled v; done = done }) else None
+begun former done other = None
+
+-- In an opening of these rules.
+abbrev pub headed : (rules : ℕ) → (done : List Counted) → OpeningDraft → Reader
+headed rules done d = record { place = place.Heading rules d; done = done }
+
+-- After the line of the rules: the balancer.
+abbrev pub named : (rules : ℕ) → (done : List Counted) → Line → Option Reader
+named rules done (line.Balancer name values) = Some (headed rules done (record { name = name; values = values; members = []; rows = []; out = [] }))
+named rules done other = None
 
 abbrev pub with_member : OpeningDraft → (name route : List ℕ) → MemberValues → OpeningDraft
 with_member d name route v = record {
@@ -47,52 +57,59 @@ with_ticket d ticket member = record {
   out = d.out ++ (ticket, member) ∷ [];
 }
 
-abbrev pub headed : Reader → OpeningDraft → Reader
-headed r d = record { rules = r.rules; place = place.Heading d; done = r.done }
-
 -- As many members as the balancer's line says, and then the tickets that are out.
 abbrev pub is_full : OpeningDraft → Bool
 is_full d = length d.members == d.values.members
 
--- A segment whose entries are still to come.
-abbrev pub opened : Reader → (name : List ℕ) → Opening → Reader
-opened r name o = record { rules = r.rules; place = place.Body name o []; done = r.done }
+-- Among the entries of a segment.
+abbrev pub in_body : (done : List Counted) → (name : List ℕ) → Segment → Reader
+in_body done name s = record { place = place.Body name s; done = done }
 
--- The opening is whole: a segment begins where it may begin so.
-abbrev pub Opens : Reader → OpeningDraft → Beginning → Option Reader → Type 0
-Opens r d b found =
+-- The opening is whole: a segment begins where one may begin so.
+abbrev pub Opens : (rules : ℕ) → (done : List Counted) → OpeningDraft → Beginning → Option Reader → Type 0
+Opens rules done d b found =
     MatchOption found
-    (is_full d ≡ true → (o : Opening) → IsOpened d b o → ¬ IsOpening o)
-    (λ q. (is_full d ≡ true) × (o : Opening) × IsOpened d b o × IsOpening o × (q ≡ opened r d.name o))
+    (is_full d ≡ true → (s : Segment) → ¬ Begins rules d b s)
+    (λ q. (is_full d ≡ true) × (s : Segment) × Begins rules d b s × (q ≡ in_body done d.name s))
 
--- In an opening.
-abbrev pub Heads : Reader → OpeningDraft → Line → Option Reader → Type 0
-Heads r d (line.Member name route v) found = found ≡ (if is_full d then None else Some (headed r (with_member d name route v)))
-Heads r d (line.Lease ticket member) found = found ≡ (if is_full d then Some (headed r (with_ticket d ticket member)) else None)
-Heads r d (line.From b) found = Opens r d b found
-Heads r d other found = found ≡ None
+-- A further member or ticket, or the opening's last line.
+abbrev pub Heads : (rules : ℕ) → (done : List Counted) → OpeningDraft → Line → Option Reader → Type 0
+Heads rules done d (line.Member name route v) found =
+    found ≡ (if is_full d then None else Some (headed rules done (with_member d name route v)))
+Heads rules done d (line.Lease ticket member) found =
+    found ≡ (if is_full d then Some (headed rules done (with_ticket d ticket member)) else None)
+Heads rules done d (line.From b) found = Opens rules done d b found
+Heads rules done d other found = found ≡ None
 
--- Among the entries.
-abbrev pub continued : Reader → (name : List ℕ) → Opening → List Entry → Line → Option Reader
-continued r name o entries (line.Entry e) =
-    Some (record { rules = r.rules; place = place.Body name o (entries ++ e ∷ []); done = r.done })
-continued r name o entries (line.End count) = Some (record {
-  rules = r.rules;
-  place = place.Outside;
-  done = r.done ++ record { name = name; rules = r.rules; opening = o; entries = entries; count = count } ∷ [];
-})
-continued r name o entries other = None
+-- A segment with a further entry.
+abbrev pub with_entry : (s : Segment) → (e : Entry) → AreKeptEntries s.rules (s.entries ++ e ∷ []) → Segment
+with_entry s e kept = record {
+  rules = s.rules;
+  opening = s.opening;
+  entries = s.entries ++ e ∷ [];
+  versions = s.versions;
+  valid = s.valid;
+  kept = kept;
+}
+
+-- A further entry, or the segment's end.
+abbrev pub Continues : (done : List Counted) → (name : List ℕ) → Segment → Line → Option Reader → Type 0
+Continues done name s (line.Entry e) found =
+    (kept : AreKeptEntries s.rules (s.entries ++ e ∷ [])) × (found ≡ Some (in_body done name (with_entry s e kept)))
+Continues done name s (line.End count) found =
+    found ≡ Some (record { place = place.Outside s.rules; done = done ++ record { name = name; segment = s; count = count } ∷ [] })
+Continues done name s other found = found ≡ None
 
 -- The reader after a line, by where it stands; none where the line is out of its place.
-abbrev pub TakesAt : Reader → TextPlace → Line → Option Reader → Type 0
-TakesAt r place.Outside l found = found ≡ begun r l
-TakesAt r place.Ruled l found = found ≡ named r l
-TakesAt r (place.Heading d) l found = Heads r d l found
-TakesAt r (place.Body name o entries) l found = found ≡ continued r name o entries l
+abbrev pub TakesAt : (done : List Counted) → TextPlace → Line → Option Reader → Type 0
+TakesAt done (place.Outside former) l found = found ≡ begun former done l
+TakesAt done (place.Ruled rules) l found = found ≡ named rules done l
+TakesAt done (place.Heading rules d) l found = Heads rules done d l found
+TakesAt done (place.Body name s) l found = Continues done name s l found
 
 -- The reader after a line's text; none where it isn't of the form of a line, or is out of its place.
 abbrev pub TakesText : Reader → (text : List ℕ) → Option Reader → Type 0
-TakesText r text found = MatchOption (line_of r.rules text) (found ≡ None) (λ l. TakesAt r r.place l found)
+TakesText r text found = MatchOption (line_of (rules_at r.place) text) (found ≡ None) (λ l. TakesAt r.done r.place l found)
 
 -- Why a line with this number isn't taken. Want of memory says nothing.
 abbrev pub RefusesTextLine : Reader → (number : ℕ) → (text : List ℕ) → TextError → Type 0
@@ -105,23 +122,21 @@ pub data TextOutcome : Type 0 where
   unreadable : (number : ℕ) → TextOutcome
 
 abbrev pub is_outside : TextPlace → Bool
-is_outside place.Outside = true
+is_outside (place.Outside former) = true
 is_outside other = false
 
 abbrev pub is_body : TextPlace → Bool
-is_body (place.Body name o entries) = true
+is_body (place.Body name s) = true
 is_body other = false
 
--- An opening that was read whole was taken out, and the reader stands between segments.
-pub record TakesOpening (r : Reader) (name : List ℕ) (o : Opening) (q : Reader) : Type 0 where
-  pub entries : List Entry
-  pub stood : r.place ≡ place.Body name o entries
-  pub stands : q ≡ record { rules = r.rules; place = place.Outside; done = r.done }
-  pub valid : IsOpening o
+-- The segment under way was taken out, and the reader stands between segments.
+pub record TakesOpening (r : Reader) (name : List ℕ) (s : Segment) (q : Reader) : Type 0 where
+  pub stood : r.place ≡ place.Body name s
+  pub stands : q ≡ record { place = place.Outside s.rules; done = r.done }
 
 -- How many members and tickets the reader holds.
 abbrev pub held : TextPlace → ℕ
-held (place.Heading d) = length d.rows + length d.out
+held (place.Heading rules d) = length d.rows + length d.out
 held other = 0
 
 -- A text may end here that has a segment; `last` is what stands after its last LF.
@@ -145,7 +160,7 @@ ReadsLines r number (text ∷ next ∷ lines) outcome =
 
 -- Before the first line; the first segment may have either rules.
 abbrev pub at_start : Reader
-at_start = record { rules = 1; place = place.Outside; done = [] }
+at_start = record { place = place.Outside 1; done = [] }
 
 -- How a text is read.
 abbrev pub ReadsText : (text : List ℕ) → TextOutcome → Type 0

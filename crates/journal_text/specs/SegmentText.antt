@@ -64,13 +64,10 @@ opening_lines name o =
 abbrev pub entry_lines : List Entry → List Line
 entry_lines entries = map (λ e. line.Entry e) entries
 
--- the lines of a segment of these rules, with this opening and these entries, whose last line says this count
-abbrev pub whole_lines : (name : List ℕ) → (rules : ℕ) → Opening → List Entry → (count : ℕ) → List Line
-whole_lines name rules o entries count =
-    line.Rules rules ∷ (opening_lines name o ++ (entry_lines entries ++ line.End count ∷ []))
-
+-- the lines of a segment whose last line says this count
 abbrev pub segment_lines : (name : List ℕ) → Segment → (count : ℕ) → List Line
-segment_lines name s count = whole_lines name s.rules s.opening s.entries count
+segment_lines name s count =
+    line.Rules s.rules ∷ (opening_lines name s.opening ++ (entry_lines s.entries ++ line.End count ∷ []))
 
 -- the text that a segment is written as: the last line has the count of its entries
 abbrev pub segment_text : (name : List ℕ) → Segment → List ℕ

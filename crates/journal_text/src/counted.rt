@@ -1,16 +1,13 @@
 //! Segments as a text has them: with their balancer's name, and how many lines they take.
 use jk_io::{Bytes, ListOf};
-use lb_model::{EntryList, Opening, Segment};
+use lb_model::Segment;
 
 /// A segment as a text has it.
 #[derive(Drop)]
 pub struct Counted {
     /// The name of its balancer.
     pub name: Bytes,
-    /// Its rules, 1 or 2.
-    pub rules: u8,
-    pub opening: Opening,
-    pub entries: EntryList,
+    pub segment: Segment,
     /// What its last line says is the count of its entries.
     pub count: u64,
 }

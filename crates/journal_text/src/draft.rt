@@ -1,13 +1,17 @@
 //! An opening, as its lines are read.
 ghost use Rattle.std.specs.Prelude.{◌≡◌, ℕ, ◌∷◌, [], ◌++◌, ◌<◌, ◌≤◌, ◌^◌, ◌==◌, length, count_by, IfOk, OnOk, MatchOption, IsTrue, ◌↔◌};
 ghost use Rattle.lb_model.specs.declared.opening.Opening.{Opening};
+ghost use Rattle.lb_model.specs.declared.segment.Segment.{Segment};
 ghost use Rattle.lb_model.specs.Validity.{IsOpening};
-ghost use Rattle.journal_text.specs.Openings.{AreCounted, IsOpened, config_of, row_of};
+ghost use Rattle.journal_text.specs.Openings.{AreCounted, Begins, IsOpened, config_of, row_of};
 ghost use Rattle.journal_text.specs.Reading.{is_full, with_member, with_ticket};
 
 use crate::{BalancerValues, Beginning, MemberValues};
 use jk_io::{Bytes, NoMemory};
-use lb_model::{LbConfig, MemberConfig, MemberList, MemberRow, Opening, RowList, TicketList};
+use lb_model::{
+    EntryList, LbConfig, MemberConfig, MemberList, MemberRow, Opening, RowList, Segment, TicketList,
+};
+use std::alloc::Global;
 
 /// An opening as far as its lines are read.
 #[derive(Drop)]
@@ -111,8 +115,33 @@ impl OpeningDraft {
         Ok(draft)
     }
 
-    /// The name and the opening, where a segment may begin so.
-    pub(crate) fn open(self, beginning: &Beginning) -> Option<(Bytes, Opening)>
+    /// The name and a segment of these rules that has no entries yet, where one may begin so.
+    pub(crate) fn begin(
+        self,
+        alloc: Global,
+        rules: u8,
+        beginning: &Beginning,
+    ) -> Option<(Bytes, Segment)>
+        requires members { length self.rows < 2 ^ 32 }
+        requires tickets { length self.out < 2 ^ 32 }
+        ensures { MatchOption result
+            ((s : Segment) → ¬ Begins rules self beginning.now s)
+            (λ found. (found.0 ≡ self.name) × Begins rules self beginning.now found.1) }
+    {
+        let (name, opening) = self.open(beginning)?;
+        if rules != 1 && rules != 2 {
+            return None;
+        }
+        let segment = Segment {
+            rules,
+            opening,
+            entries: EntryList::new(alloc),
+        };
+        Some((name, segment))
+    }
+
+    // The name and the opening, where a segment may begin so.
+    fn open(self, beginning: &Beginning) -> Option<(Bytes, Opening)>
         requires members { length self.rows < 2 ^ 32 }
         requires tickets { length self.out < 2 ^ 32 }
         ensures { MatchOption result

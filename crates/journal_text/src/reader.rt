@@ -1,57 +1,43 @@
 //! The reader of a text: where it stands, and what each line makes of that.
-ghost use Rattle.std.specs.Prelude.{◌≡◌, [], ◌∷◌, ◌++◌, ◌+◌, ◌≤◌, ◌<◌, ◌^◌, None, Some, true, false, All, length, IfNone, IfErr, IfOk, IfSome, MatchOption};
-ghost use Rattle.lb_model.specs.Segments.{AreRules};
+ghost use Rattle.std.specs.Prelude.{◌≡◌, [], ◌∷◌, ◌++◌, ◌+◌, ◌≤◌, ◌<◌, ◌^◌, None, Some, true, false, length, IfNone, IfErr, IfOk, IfSome, MatchOption};
 ghost use Rattle.journal_text.specs.Ranges.{IsKeptLine};
-ghost use Rattle.lb_model.specs.Segments.{AreKeptEntries};
-ghost use Rattle.lb_model.specs.Validity.{IsOpening};
-ghost use Rattle.journal_text.specs.Kept.{IsKeptSegment, IsSound};
-ghost use Rattle.journal_text.specs.Reading.{Heads, Opens, RefusesTextLine, TakesAt, TakesOpening, TakesText, at_start, begun, continued, held, is_body, is_end, is_over, named, opened, with_member, with_ticket};
+ghost use Rattle.journal_text.specs.Reading.{Continues, Heads, Opens, RefusesTextLine, TakesAt, TakesOpening, TakesText, at_start, begun, headed, held, is_body, is_end, is_over, named, rules_at, with_member, with_ticket};
 
 use crate::counted::{Counted, CountedList};
 use crate::draft::OpeningDraft;
 use crate::text_error::TextError;
 use crate::{Beginning, Line, MemberValues, read_line};
 use jk_io::{Bytes, NoMemory};
-use lb_model::{Entry, EntryList, MemberList, Opening, RowList, TicketList};
+use lb_model::{Entry, MemberList, RowList, Segment, TicketList};
 use std::alloc::Global;
 
 /// Where a text is read.
 #[derive(Drop)]
 pub enum TextPlace {
-    /// Between segments.
-    Outside,
+    /// Between segments. The rules are those of the last one, and 1 before the first.
+    Outside { former: u8 },
     /// After the line of a segment's rules.
-    Ruled,
+    Ruled { rules: u8 },
     /// In an opening, after its balancer's line.
-    Heading(OpeningDraft),
+    Heading { rules: u8, draft: OpeningDraft },
     /// Among the entries of a segment.
-    Body {
-        name: Bytes,
-        opening: Opening,
-        entries: EntryList,
-    },
+    Body { name: Bytes, segment: Segment },
 }
 
 /// The reader of a text, which takes it line by line and holds the segments that nobody took out.
 #[derive(Drop)]
 pub struct Reader {
-    /// Those of the present segment, or of the last one.
-    rules: u8,
     place: TextPlace,
     /// The segments that were read.
     done: CountedList,
 }
 
-fn begun(rules: u8, done: CountedList, line: Line) -> Option<Reader>
-    requires kept { IsKeptLine rules line }
-    requires sound { All IsKeptSegment done }
-    ensures sound { IfSome result IsSound }
-    ensures takes { result ≡ begun (record { rules = rules; place = TextPlace.Outside; done = done }) line }
+fn begun(former: u8, done: CountedList, line: Line) -> Option<Reader>
+    ensures { result ≡ begun former done line }
 {
     match line {
-        Line::Rules(version) if rules <= version => Some(Reader {
-            rules: version,
-            place: TextPlace::Ruled,
+        Line::Rules(rules) if former <= rules => Some(Reader {
+            place: TextPlace::Ruled { rules },
             done,
         }),
         _ => None,
@@ -59,10 +45,7 @@ fn begun(rules: u8, done: CountedList, line: Line) -> Option<Reader>
 }
 
 fn named(alloc: Global, rules: u8, done: CountedList, line: Line) -> Option<Reader>
-    requires versions { AreRules rules }
-    requires sound { All IsKeptSegment done }
-    ensures sound { IfSome result IsSound }
-    ensures takes { result ≡ named (record { rules = rules; place = TextPlace.Ruled; done = done }) line }
+    ensures { result ≡ named rules done line }
 {
     let Line::Balancer { name, values } = line else {
         return None;
@@ -75,8 +58,7 @@ fn named(alloc: Global, rules: u8, done: CountedList, line: Line) -> Option<Read
         out: TicketList::new(alloc),
     };
     Some(Reader {
-        rules,
-        place: TextPlace::Heading(draft),
+        place: TextPlace::Heading { rules, draft },
         done,
     })
 }
@@ -88,23 +70,15 @@ fn opened(
     draft: OpeningDraft,
     beginning: &Beginning,
 ) -> Option<Reader>
-    requires versions { AreRules rules }
-    requires few { length draft.rows + length draft.out < 2 ^ 32 }
-    requires sound { All IsKeptSegment done }
-    ensures sound { IfSome result IsSound }
-    ensures takes { Opens (record { rules = rules; place = TextPlace.Heading draft; done = done }) draft beginning.now result }
+    requires { length draft.rows + length draft.out < 2 ^ 32 }
+    ensures { Opens rules done draft beginning.now result }
 {
     if !draft.is_full() {
         return None;
     }
-    let (name, opening) = draft.open(beginning)?;
+    let (name, segment) = draft.begin(alloc, rules, beginning)?;
     Some(Reader {
-        rules,
-        place: TextPlace::Body {
-            name,
-            opening,
-            entries: EntryList::new(alloc),
-        },
+        place: TextPlace::Body { name, segment },
         done,
     })
 }
@@ -118,16 +92,14 @@ fn with_member(
     route: Bytes,
     values: MemberValues,
 ) -> Result<Option<Reader>, NoMemory>
-    requires versions { AreRules rules }
-    requires sound { All IsKeptSegment done }
-    ensures sound { IfOk result (λ found. IfSome found IsSound) }
-    ensures value { IfOk result (λ found. found ≡ Some (record { rules = rules; place = TextPlace.Heading (with_member draft name route values); done = done })) }
-    ensures grown { IfOk result (λ found. IfSome found (λ q. held q.place ≤ length draft.rows + length draft.out + 1)) }
+    ensures { IfOk result (λ found. found ≡ Some (headed rules done (with_member draft name route values))) }
 {
     let further = draft.with_member(name, route, values)?;
     Ok(Some(Reader {
-        rules,
-        place: TextPlace::Heading(further),
+        place: TextPlace::Heading {
+            rules,
+            draft: further,
+        },
         done,
     }))
 }
@@ -140,16 +112,14 @@ fn with_ticket(
     ticket: u64,
     member: u32,
 ) -> Result<Option<Reader>, NoMemory>
-    requires versions { AreRules rules }
-    requires sound { All IsKeptSegment done }
-    ensures sound { IfOk result (λ found. IfSome found IsSound) }
-    ensures value { IfOk result (λ found. found ≡ Some (record { rules = rules; place = TextPlace.Heading (with_ticket draft ticket member); done = done })) }
-    ensures grown { IfOk result (λ found. IfSome found (λ q. held q.place ≤ length draft.rows + length draft.out + 1)) }
+    ensures { IfOk result (λ found. found ≡ Some (headed rules done (with_ticket draft ticket member))) }
 {
     let further = draft.with_ticket(ticket, member)?;
     Ok(Some(Reader {
-        rules,
-        place: TextPlace::Heading(further),
+        place: TextPlace::Heading {
+            rules,
+            draft: further,
+        },
         done,
     }))
 }
@@ -161,12 +131,8 @@ fn headed(
     draft: OpeningDraft,
     line: Line,
 ) -> Result<Option<Reader>, NoMemory>
-    requires versions { AreRules rules }
-    requires few { length draft.rows + length draft.out < 2 ^ 32 }
-    requires sound { All IsKeptSegment done }
-    ensures sound { IfOk result (λ found. IfSome found IsSound) }
-    ensures takes { IfOk result (Heads (record { rules = rules; place = TextPlace.Heading draft; done = done }) draft line) }
-    ensures grown { IfOk result (λ found. IfSome found (λ q. held q.place ≤ length draft.rows + length draft.out + 1)) }
+    requires { length draft.rows + length draft.out < 2 ^ 32 }
+    ensures { IfOk result (Heads rules done draft line) }
 {
     let full = draft.is_full();
     match line {
@@ -183,81 +149,66 @@ fn headed(
 
 // With a further entry.
 fn with_entry(
-    rules: u8,
     done: CountedList,
     name: Bytes,
-    opening: Opening,
-    entries: EntryList,
+    segment: Segment,
     entry: Entry,
 ) -> Result<Option<Reader>, NoMemory>
-    requires versions { AreRules rules }
-    requires valid { IsOpening opening }
-    requires entries { AreKeptEntries rules entries }
-    requires kept { IsKeptLine rules (Line.Entry entry) }
-    requires sound { All IsKeptSegment done }
-    ensures sound { IfOk result (λ found. IfSome found IsSound) }
-    ensures value { IfOk result (λ found. found
-        ≡ Some (record { rules = rules; place = TextPlace.Body name opening (entries ++ entry ∷ []); done = done })) }
-    ensures grown { IfOk result (λ found. IfSome found (λ q. held q.place ≡ 0)) }
+    requires { IsKeptLine segment.rules (Line.Entry entry) }
+    ensures { IfOk result (Continues done name segment (Line.Entry entry)) }
 {
+    let Segment {
+        rules,
+        opening,
+        entries,
+    } = segment;
     let mut entries = entries;
     entries.push(entry)?;
-    let place = TextPlace::Body {
-        name,
+    let segment = Segment {
+        rules,
         opening,
         entries,
     };
-    Ok(Some(Reader { rules, place, done }))
+    Ok(Some(Reader {
+        place: TextPlace::Body { name, segment },
+        done,
+    }))
 }
 
-// After a further segment.
-fn with_segment(rules: u8, done: CountedList, segment: Counted) -> Result<Option<Reader>, NoMemory>
-    requires versions { AreRules rules }
-    requires kept { IsKeptSegment segment }
-    requires sound { All IsKeptSegment done }
-    ensures sound { IfOk result (λ found. IfSome found IsSound) }
-    ensures value { IfOk result (λ found. found ≡ Some (record { rules = rules; place = TextPlace.Outside; done = done ++ segment ∷ [] })) }
-    ensures grown { IfOk result (λ found. IfSome found (λ q. held q.place ≡ 0)) }
+// After the end of a segment.
+fn ended(
+    done: CountedList,
+    name: Bytes,
+    segment: Segment,
+    count: u64,
+) -> Result<Option<Reader>, NoMemory>
+    ensures { IfOk result (Continues done name segment (Line.End count)) }
 {
+    let former = segment.rules;
     let mut done = done;
-    done.push(segment)?;
+    done.push(Counted {
+        name,
+        segment,
+        count,
+    })?;
     Ok(Some(Reader {
-        rules,
-        place: TextPlace::Outside,
+        place: TextPlace::Outside { former },
         done,
     }))
 }
 
 fn continued(
-    rules: u8,
     done: CountedList,
     name: Bytes,
-    opening: Opening,
-    entries: EntryList,
+    segment: Segment,
     line: Line,
 ) -> Result<Option<Reader>, NoMemory>
-    requires versions { AreRules rules }
-    requires valid { IsOpening opening }
-    requires entries { AreKeptEntries rules entries }
-    requires kept { IsKeptLine rules line }
-    requires sound { All IsKeptSegment done }
-    ensures sound { IfOk result (λ found. IfSome found IsSound) }
-    ensures takes { IfOk result (λ found. found
-        ≡ continued (record { rules = rules; place = TextPlace.Body name opening entries; done = done }) name opening entries line) }
-    ensures grown { IfOk result (λ found. IfSome found (λ q. held q.place ≡ 0)) }
+    requires { IsKeptLine segment.rules line }
+    ensures { IfOk result (Continues done name segment line) }
 {
     match line {
-        Line::Entry(entry) => with_entry(rules, done, name, opening, entries, entry),
-        Line::End(count) => {
-            let segment = Counted {
-                name,
-                rules,
-                opening,
-                entries,
-                count,
-            };
-            with_segment(rules, done, segment)
-        }
+        Line::Entry(entry) => with_entry(done, name, segment, entry),
+        Line::End(count) => ended(done, name, segment, count),
         _ => Ok(None),
     }
 }
@@ -265,57 +216,42 @@ fn continued(
 impl Reader {
     /// Before the first line.
     pub fn new(alloc: Global) -> Reader
-        ensures value { result ≡ at_start }
-        ensures sound { IsSound result }
+        ensures { result ≡ at_start }
     {
         Reader {
-            rules: 1,
-            place: TextPlace::Outside,
+            place: TextPlace::Outside { former: 1 },
             done: CountedList::new(alloc),
         }
     }
 
     fn take(self, alloc: Global, line: Line) -> Result<Option<Reader>, NoMemory>
         requires few { held self.place < 2 ^ 32 }
-        requires kept { IsKeptLine self.rules line }
-        requires sound { IsSound self }
-        ensures sound { IfOk result (λ found. IfSome found IsSound) }
-        ensures takes { IfOk result (TakesAt self self.place line) }
-        ensures grown { IfOk result (λ found. IfSome found (λ q. held q.place ≤ held self.place + 1)) }
+        requires kept { IsKeptLine (rules_at self.place) line }
+        ensures { IfOk result (TakesAt self.done self.place line) }
     {
-        let Reader { rules, place, done } = self;
+        let Reader { place, done } = self;
         match place {
-            TextPlace::Outside => Ok(begun(rules, done, line)),
-            TextPlace::Ruled => Ok(named(alloc, rules, done, line)),
-            TextPlace::Heading(draft) => headed(alloc, rules, done, draft, line),
-            TextPlace::Body {
-                name,
-                opening,
-                entries,
-            } => continued(rules, done, name, opening, entries, line),
+            TextPlace::Outside { former } => Ok(begun(former, done, line)),
+            TextPlace::Ruled { rules } => Ok(named(alloc, rules, done, line)),
+            TextPlace::Heading { rules, draft } => headed(alloc, rules, done, draft, line),
+            TextPlace::Body { name, segment } => continued(done, name, segment, line),
         }
     }
 
     /// Takes the text of a line, without its LF. `None`: it can't be read there.
     pub fn take_text(self, alloc: Global, text: &[u8]) -> Result<Option<Reader>, NoMemory>
-        requires few { held self.place < 2 ^ 32 }
-        requires sound { IsSound self }
-        ensures sound { IfOk result (λ found. IfSome found IsSound) }
-        ensures takes { IfOk result (TakesText self text.now) }
-        ensures grown { IfOk result (λ found. IfSome found (λ q. held q.place ≤ held self.place + 1)) }
+        requires { held self.place < 2 ^ 32 }
+        ensures { IfOk result (TakesText self text.now) }
     {
-        let read = read_line(alloc, self.rules, text)?;
+        let read = read_line(alloc, self.rules(), text)?;
         self.take_read(alloc, read)
     }
 
     // Takes what a text was read as.
     fn take_read(self, alloc: Global, read: Option<Line>) -> Result<Option<Reader>, NoMemory>
         requires few { held self.place < 2 ^ 32 }
-        requires kept { IfSome read (IsKeptLine self.rules) }
-        requires sound { IsSound self }
-        ensures sound { IfOk result (λ found. IfSome found IsSound) }
-        ensures takes { IfOk result (λ found. MatchOption read (found ≡ None) (λ line. TakesAt self self.place line found)) }
-        ensures grown { IfOk result (λ found. IfSome found (λ q. held q.place ≤ held self.place + 1)) }
+        requires kept { IfSome read (IsKeptLine (rules_at self.place)) }
+        ensures { IfOk result (λ found. MatchOption read (found ≡ None) (λ line. TakesAt self.done self.place line found)) }
     {
         match read {
             None => Ok(None),
@@ -323,37 +259,38 @@ impl Reader {
         }
     }
 
-    /// Takes out an opening that was read whole, with its balancer's name; the reader then stands between segments.
-    pub fn take_opening(self) -> (Reader, Option<(Bytes, Opening)>)
-        requires sound { IsSound self }
+    /// Takes out the segment whose opening was read whole, with its balancer's name; the reader then stands between segments.
+    pub fn take_opening(self) -> (Reader, Option<(Bytes, Segment)>)
         ensures none { IfNone result.1 ((result.0 ≡ self) × (is_body self.place ≡ false)) }
         ensures opened { IfSome result.1 (λ x. TakesOpening self x.0 x.1 result.0) }
-        ensures sound { IsSound result.0 }
     {
-        let Reader { rules, place, done } = self;
+        let Reader { place, done } = self;
         match place {
-            TextPlace::Body { name, opening, .. } => {
-                let place = TextPlace::Outside;
-                (Reader { rules, place, done }, Some((name, opening)))
+            TextPlace::Body { name, segment } => {
+                let place = TextPlace::Outside {
+                    former: segment.rules,
+                };
+                (Reader { place, done }, Some((name, segment)))
             }
-            place => (Reader { rules, place, done }, None),
+            place => (Reader { place, done }, None),
         }
     }
 
     /// The rules of the present segment, or of the last one.
     pub fn rules(&self) -> u8
-        requires { IsSound self.now }
-        ensures value { result ≡ self.now.rules }
-        ensures versions { AreRules result }
+        ensures { result ≡ rules_at self.now.place }
     {
-        self.rules
+        match &self.place {
+            TextPlace::Outside { former } => *former,
+            TextPlace::Ruled { rules } => *rules,
+            TextPlace::Heading { rules, .. } => *rules,
+            TextPlace::Body { segment, .. } => segment.rules,
+        }
     }
 
     /// Takes the text of the line with this number, without its LF.
     pub fn take_line(self, alloc: Global, text: &[u8], number: u32) -> Result<Reader, TextError>
-        requires few { held self.place < 2 ^ 32 }
-        requires sound { IsSound self }
-        ensures sound { IfOk result IsSound }
+        requires { held self.place < 2 ^ 32 }
         ensures takes { IfOk result (λ q. TakesText self text.now (Some q)) }
         ensures grown { IfOk result (λ q. held q.place ≤ held self.place + 1) }
         ensures err { IfErr result (RefusesTextLine self number text.now) }
@@ -366,9 +303,7 @@ impl Reader {
 
     /// The segments that were read, where a text may end here; `last` is what stands after its last LF.
     pub(crate) fn end(self, last: &[u8]) -> Option<CountedList>
-        requires sound { IsSound self }
-        ensures sound { IfSome result (All IsKeptSegment) }
-        ensures value { MatchOption result (is_end self last.now ≡ false) (λ done. (is_end self last.now ≡ true) × (done ≡ self.done)) }
+        ensures { MatchOption result (is_end self last.now ≡ false) (λ done. (is_end self last.now ≡ true) × (done ≡ self.done)) }
     {
         if self.is_over(last) && !self.done.is_empty() {
             Some(self.into_done())
@@ -385,12 +320,9 @@ impl Reader {
 
     /// Takes out the segment that was read last, where there is one.
     pub fn take_segment(&mut self) -> Option<Counted>
-        requires sound { IsSound self.old }
         ensures none { IfNone result ((self.old.done ≡ []) × (self.new.done ≡ [])) }
         ensures some { IfSome result (λ c. self.old.done ≡ self.new.done ++ c ∷ []) }
-        ensures kept { IfSome result IsKeptSegment }
-        ensures same { (self.new.rules ≡ self.old.rules) × (self.new.place ≡ self.old.place) }
-        ensures sound { IsSound self.new }
+        ensures same { self.new.place ≡ self.old.place }
     {
         self.done.pop()
     }
@@ -399,6 +331,6 @@ impl Reader {
     pub fn is_over(&self, last: &[u8]) -> bool
         ensures { result ≡ is_over self.now last.now }
     {
-        last.is_empty() && matches!(&self.place, TextPlace::Outside)
+        last.is_empty() && matches!(&self.place, TextPlace::Outside { .. })
     }
 }

@@ -1,6 +1,5 @@
 //! A text, read as segments.
-ghost use Rattle.std.specs.Prelude.{◌≤◌, All, length, IfOk};
-ghost use Rattle.journal_text.specs.Kept.{IsKeptSegment};
+ghost use Rattle.std.specs.Prelude.{◌≤◌, length};
 ghost use Rattle.journal_text.specs.Reading.{ReadsText, TellsOutcome};
 ghost use Rattle.jk_io.specs.declared.whole_input.TheConstants.{MAX_INPUT_BYTES};
 
@@ -13,8 +12,7 @@ use std::alloc::Global;
 /// The segments of a text, each with the count of its last line.
 pub(crate) fn read_counted(alloc: Global, text: &[u8]) -> Result<CountedList, TextError>
     requires { length text.now ≤ MAX_INPUT_BYTES }
-    ensures value { TellsOutcome result (ReadsText text.now) }
-    ensures sound { IfOk result (All IsKeptSegment) }
+    ensures { TellsOutcome result (ReadsText text.now) }
 {
     let mut lines = Parts::of(b'\n', text);
     let mut line = match lines.next() {

@@ -1,7 +1,6 @@
 //! The segments of a text.
-ghost use Rattle.std.specs.Prelude.{◌≡◌, ◌≤◌, All, length, reverse, IfOk};
-ghost use Rattle.journal_text.specs.Kept.{IsKeptSegment};
-ghost use Rattle.journal_text.specs.Pairs.{ArePairsOf, IsPairOf, IsReadAs};
+ghost use Rattle.std.specs.Prelude.{◌≡◌, ◌≤◌, length, map, reverse, IfOk};
+ghost use Rattle.journal_text.specs.Pairs.{IsReadAs, pair_of};
 ghost use Rattle.jk_io.specs.declared.whole_input.TheConstants.{MAX_INPUT_BYTES};
 
 use crate::counted::{Counted, CountedList, SegmentList};
@@ -12,28 +11,19 @@ use lb_model::Segment;
 use std::alloc::Global;
 
 fn segment_of(counted: Counted) -> (Bytes, Segment)
-    requires { IsKeptSegment counted }
-    ensures { IsPairOf counted result }
+    ensures { result ≡ pair_of counted }
 {
     let Counted {
         name,
-        rules,
-        opening,
-        entries,
+        segment,
         count: _,
     } = counted;
-    let segment = Segment {
-        rules,
-        opening,
-        entries,
-    };
     (name, segment)
 }
 
 // The last one first.
 fn segments_of(alloc: Global, counted: CountedList) -> Result<Vec<(Bytes, Segment)>, NoMemory>
-    requires { All IsKeptSegment counted }
-    ensures { IfOk result (λ pairs. ArePairsOf counted (reverse pairs.items)) }
+    ensures { IfOk result (λ pairs. reverse pairs.items ≡ map pair_of counted) }
 {
     let mut counted = counted;
     let mut pairs = Vec::with_capacity(alloc, counted.len())?;

@@ -8,7 +8,6 @@ use Rattle.lb_model.specs.Present.{IsEnding}
 use Rattle.lb_model.specs.declared.opening.Opening.{Opening}
 use Rattle.play_script.specs.Parts.{parts_of}
 use Rattle.journal_text.specs.declared.line.Line.TheVariants as line
-use Rattle.journal_text.specs.Kept.{IsSound}
 use Rattle.journal_text.specs.Reading.{TextOutcome, ReadsLines, ReadsText, TakesText, at_start, held, is_end, is_outside, readable, unreadable}
 use Rattle.journal_text.specs.SegmentText.{entry_lines, opening_lines}
 use Rattle.journal_text.specs.Written.{lines_of}
@@ -33,17 +32,17 @@ use Rattle.journal_verdict.proofs.ReaderFacts.{takes_front, takes_stepped}
 lines_more : (cs : List Counted) (c : Counted) → lines_in (cs ++ c ∷ []) ≡ lines_in cs + length (lines_of c)
 lines_more cs c = sum_by_push (λ (x : Counted). length (lines_of x)) cs c
 
-entries_more : (cs : List Counted) (c : Counted) → entries_in (cs ++ c ∷ []) ≡ entries_in cs + length c.entries
-entries_more cs c = sum_by_push (λ (x : Counted). length x.entries) cs c
+entries_more : (cs : List Counted) (c : Counted) → entries_in (cs ++ c ∷ []) ≡ entries_in cs + length c.segment.entries
+entries_more cs c = sum_by_push (λ (x : Counted). length x.segment.entries) cs c
 
 -- a segment has no more entries than lines
-entries_within : (c : Counted) → length c.entries ≤ length (lines_of c)
+entries_within : (c : Counted) → length c.segment.entries ≤ length (lines_of c)
 entries_within c =
     omega (
       arith,
-      length-append (opening_lines c.name c.opening) (entry_lines c.entries ++ line.End c.count ∷ []),
-      length-append (entry_lines c.entries) (line.End c.count ∷ []),
-      length-map c.entries (λ e. line.Entry e),
+      length-append (opening_lines c.name c.segment.opening) (entry_lines c.segment.entries ++ line.End c.count ∷ []),
+      length-append (entry_lines c.segment.entries) (line.End c.count ∷ []),
+      length-map c.segment.entries (λ e. line.Entry e),
     )
 
 few_entries : (cs : List Counted) → entries_in cs ≤ lines_in cs
@@ -54,13 +53,13 @@ few_entries (c ∷ cs) =
       few_entries cs,
       entries_within c,
       sum_by-cons (λ (x : Counted). length (lines_of x)) c cs,
-      sum_by-cons (λ (x : Counted). length x.entries) c cs,
+      sum_by-cons (λ (x : Counted). length x.segment.entries) c cs,
     )
 
 -- ---- the verdict on one segment more
 
 right_more : (first last : Former) (cs : List Counted) (c : Counted) (ending : Opening) → AreRight first cs last → IsRight last c
-    → IsEnding c.rules c.opening (reverse c.entries) ending → AreRight first (cs ++ c ∷ []) (Some (c.name, ending))
+    → IsEnding c.segment.rules c.segment.opening (reverse c.segment.entries) ending → AreRight first (cs ++ c ∷ []) (Some (c.name, ending))
 right_more first last [] c ending all right ends = (ending, subst (λ f. IsRight f c) all right, ends, refl)
 right_more first last (d ∷ cs) c ending all right ends =
     (all.0, all.1, all.2, right_more (Some (d.name, all.0)) last cs c ending all.3 right ends)
@@ -134,32 +133,30 @@ has_room old done text q c taken few takes ended =
     ]) taken.comes
 
 -- the same place with no segment before, or with the segments that came out of it
-fronts : (done : List Counted) (c : List Counted) (q r : Reader) → q.done ≡ c → r.done ≡ [] → r.rules ≡ q.rules → r.place ≡ q.place
+fronts : (done : List Counted) (c : List Counted) (q r : Reader) → q.done ≡ c → r.done ≡ [] → r.place ≡ q.place
     → front done q ≡ front (done ++ c) r
-fronts done c q r ended empty rules place =
-    ap (λ (v : ℕ). record { rules = v; place = q.place; done = done ++ q.done }) (sym rules)
-    ∙ ap (λ (p : TextPlace). record { rules = r.rules; place = p; done = done ++ q.done }) (sym place)
-    ∙ ap (λ (d : List Counted). record { rules = r.rules; place = r.place; done = done ++ d }) ended
-    ∙ ap (λ (d : List Counted). record { rules = r.rules; place = r.place; done = d }) (sym (append-nil (done ++ c)))
-    ∙ ap (λ (d : List Counted). record { rules = r.rules; place = r.place; done = (done ++ c) ++ d }) (sym empty)
+fronts done c q r ended empty place =
+    ap (λ (p : TextPlace). record { place = p; done = done ++ q.done }) (sym place)
+    ∙ ap (λ (d : List Counted). record { place = r.place; done = done ++ d }) ended
+    ∙ ap (λ (d : List Counted). record { place = r.place; done = d }) (sym (append-nil (done ++ c)))
+    ∙ ap (λ (d : List Counted). record { place = r.place; done = (done ++ c) ++ d }) (sym empty)
 
 some_more : (cs : List Counted) (c : Counted) → nat_lt 0 (length (cs ++ c ∷ [])) ≡ true
 some_more cs c = lt-ltb 0 (length (cs ++ c ∷ [])) (omega (arith, length-append cs (c ∷ [])))
 
 -- the line made no segment whole
 goes_on : (old : Checker) (done : List Counted) (text : List ℕ) (q : Reader) (new : Checker) → HasTaken old done
-    → TakesText old.reader text (Some q) → IsSound new.reader → new.reader.rules ≡ q.rules → new.reader.place ≡ q.place
+    → TakesText old.reader text (Some q) → new.reader.place ≡ q.place
     → new.number ≡ old.number + 1 → q.done ≡ [] → Judged [] old.check old.some new
     → HasTaken new done × TakesText (front done old.reader) text (Some (front done new.reader))
-goes_on old done text q new taken takes sound rules place number empty judged =
+goes_on old done text q new taken takes place number empty judged =
     let lines : lines_taken q.place ≡ lines_taken old.reader.place + 1 = elim (takes_stepped old.reader q text takes) [
       | inl w ↦ w.1
       | inr w ↦ absurd (let none : old.reader.done ++ w.0 ∷ [] ≡ [] = sym w.1 ∙ empty in omega (arith, ap length none, length-append old.reader.done (w.0 ∷ [])))
     ] in
     let same : front done q ≡ front done new.reader =
-    fronts done [] q new.reader empty judged.0 rules place ∙ ap (λ d. front d new.reader) (append-nil done) in (
+    fronts done [] q new.reader empty judged.0 place ∙ ap (λ d. front d new.reader) (append-nil done) in (
       record {
-        sound = sound;
         empty = judged.0;
         comes = subst (λ k. Comes done k) (sym judged.1) taken.comes;
         number = omega (arith, number, taken.number, lines, ap lines_taken place);
@@ -170,19 +167,18 @@ goes_on old done text q new taken takes sound rules place number empty judged =
 
 -- the line was the last one of a segment
 goes_over : (old : Checker) (done : List Counted) (text : List ℕ) (q : Reader) (new : Checker) (c : Counted) → HasTaken old done
-    → TakesText old.reader text (Some q) → IsSound new.reader → new.reader.rules ≡ q.rules → new.reader.place ≡ q.place
+    → TakesText old.reader text (Some q) → new.reader.place ≡ q.place
     → new.number ≡ old.number + 1 → q.done ≡ c ∷ [] → Judged (c ∷ []) old.check old.some new
     → HasTaken new (done ++ c ∷ []) × TakesText (front done old.reader) text (Some (front (done ++ c ∷ []) new.reader))
-goes_over old done text q new c taken takes sound rules place number ended judged =
+goes_over old done text q new c taken takes place number ended judged =
     let lines = ended_lines old.reader q text c taken.empty ended takes in (
       record {
-        sound = sound;
         empty = judged.0;
         comes = comes_more done c old.check new.check taken.comes judged.1;
         number = omega (arith, number, taken.number, lines.0, lines.1, ap lines_taken place, lines_more done c);
         some = judged.2 ∙ sym (some_more done c);
       },
-      subst (λ x. TakesText (front done old.reader) text (Some x)) (fronts done (c ∷ []) q new.reader ended judged.0 rules place)
+      subst (λ x. TakesText (front done old.reader) text (Some x)) (fronts done (c ∷ []) q new.reader ended judged.0 place)
           (takes_front done old.reader text (Some q) takes),
     )
 
@@ -198,21 +194,21 @@ never_two r q text c d cs empty ended takes =
     ]
 
 advances_by : (old : Checker) (done : List Counted) (text : List ℕ) (q : Reader) (new : Checker) (ended : List Counted) → HasTaken old done
-    → TakesText old.reader text (Some q) → IsSound new.reader → new.reader.rules ≡ q.rules → new.reader.place ≡ q.place
+    → TakesText old.reader text (Some q) → new.reader.place ≡ q.place
     → new.number ≡ old.number + 1 → q.done ≡ ended → Judged ended old.check old.some new
     → (now : List Counted) × HasTaken new now × TakesText (front done old.reader) text (Some (front now new.reader))
-advances_by old done text q new [] taken takes sound rules place number is judged =
-    let on = goes_on old done text q new taken takes sound rules place number is judged in (done, on.0, on.1)
-advances_by old done text q new (c ∷ []) taken takes sound rules place number is judged =
-    let over = goes_over old done text q new c taken takes sound rules place number is judged in (done ++ c ∷ [], over.0, over.1)
-advances_by old done text q new (c ∷ d ∷ cs) taken takes sound rules place number is judged =
+advances_by old done text q new [] taken takes place number is judged =
+    let on = goes_on old done text q new taken takes place number is judged in (done, on.0, on.1)
+advances_by old done text q new (c ∷ []) taken takes place number is judged =
+    let over = goes_over old done text q new c taken takes place number is judged in (done ++ c ∷ [], over.0, over.1)
+advances_by old done text q new (c ∷ d ∷ cs) taken takes place number is judged =
     absurd (never_two old.reader q text c d cs taken.empty is takes)
 
 -- the segments that were taken, and the lines of another one, go on by a line
 pub advances : (old : Checker) (text : List ℕ) (q : Reader) (new : Checker) → TakesText old.reader text (Some q)
     → CheckGoesOn q old.check old.some (old.number + 1) new → Advances old text new
 advances old text q new takes on =
-    λ done taken. advances_by old done text q new q.done taken takes on.sound on.versions on.stands on.counted refl on.judged
+    λ done taken. advances_by old done text q new q.done taken takes on.stands on.counted refl on.judged
 
 -- a line ends at most one segment
 pub ended_few : (r q : Reader) (text : List ℕ) → r.done ≡ [] → TakesText r text (Some q) → length q.done ≤ 1
@@ -223,10 +219,10 @@ ended_few r q text empty takes =
     ]
 
 held_within : (p : TextPlace) → held p ≤ lines_taken p
-held_within place.Outside = omega arith
-held_within place.Ruled = omega arith
-held_within (place.Heading d) = omega arith
-held_within (place.Body name o entries) = omega arith
+held_within (place.Outside former) = omega arith
+held_within (place.Ruled rules) = omega arith
+held_within (place.Heading rules d) = omega arith
+held_within (place.Body name s) = omega arith
 
 -- a reader holds few members and tickets of a text that isn't too long
 pub held_few : (c : Checker) (done : List Counted) → HasTaken c done → c.number ≤ 67108866 → held c.reader.place < 2 ^ 32
@@ -256,23 +252,19 @@ judged_some done rest c k some new is few left leads so =
 abbrev pub checker_so : Reader → Check → Bool → (number : ℕ) → Checker
 checker_so r k some number = record { reader = r; check = k; some = some; number = number }
 
-pub goes_on_none : (r q : Reader) (k : Check) (some : Bool) (number : ℕ) → IsSound q → (q.rules ≡ r.rules) × (q.place ≡ r.place)
+pub goes_on_none : (r q : Reader) (k : Check) (some : Bool) (number : ℕ) → q.place ≡ r.place
     → (r.done ≡ []) × (q.done ≡ []) → CheckGoesOn r k some number (checker_so q k some number)
-goes_on_none r q k some number sound same none = record {
-  sound = sound;
-  versions = same.0;
-  stands = same.1;
+goes_on_none r q k some number same none = record {
+  stands = same;
   counted = refl;
   judged = judged_none r.done k some (checker_so q k some number) none.0 none.1 refl refl;
 }
 
-pub goes_on_some : (r q : Reader) (c : Counted) (k after : Check) (some : Bool) (number : ℕ) → IsSound q → (q.rules ≡ r.rules) × (q.place ≡ r.place)
+pub goes_on_some : (r q : Reader) (c : Counted) (k after : Check) (some : Bool) (number : ℕ) → q.place ≡ r.place
     → r.done ≡ q.done ++ c ∷ [] → length r.done ≤ 1 → Leads k c after
     → CheckGoesOn r k some number (checker_so q after true number)
-goes_on_some r q c k after some number sound same is few leads = record {
-  sound = sound;
-  versions = same.0;
-  stands = same.1;
+goes_on_some r q c k after some number same is few leads = record {
+  stands = same;
   counted = refl;
   judged = judged_some r.done q.done c k some (checker_so q after true number) is few refl leads refl;
 }

@@ -2,6 +2,7 @@
 use Rattle.std.proofs.Common.{◌≡◌, ℕ, Bool, true, false, List, [], ◌∷◌, ◌++◌, Option, Some, None, Result, Ok, Err, IfErr, OnOk, refl, sym, subst, ap, ◌∙◌}
 use Rattle.std.specs.Result.{IsErrAnd}
 use Rattle.journal_text.specs.Readings.{line_of}
+use Rattle.journal_text.specs.Reading.{rules_at}
 use Rattle.journal_text.specs.declared.line.Line.{Line}
 use Rattle.journal_text.specs.declared.line.Line.TheVariants as line
 use Rattle.lb_model.specs.declared.journal.Entry.{Entry}
@@ -23,10 +24,10 @@ unread_by false state s text run is known without = absurd (let wrong : false �
 
 -- the line can't stand there
 pub unread : (m : Machine) (s : Stand) (text : List ℕ) (r : Run) (found : Option Line) → KnowsAs m s → m.among ≡ true → m.run ≡ Some r
-    → found ≡ line_of m.reader.rules text → is_among found ≡ false → IsUnreadLine s.among s.run s text
+    → found ≡ line_of (rules_at m.reader.place) text → is_among found ≡ false → IsUnreadLine s.among s.run s text
 unread m s text r found at among is found_is without =
     let has = run_of s.among m.run s.run r at.run is in
-    let rules : m.reader.rules ≡ has.run.rules = ap (λ q. q.rules) at.reader ∙ at.rules has.run (sym at.among ∙ among) has.known in
+    let rules : rules_at m.reader.place ≡ has.run.rules = ap (λ (q : Reader). rules_at q.place) at.reader ∙ at.rules has.run (sym at.among ∙ among) has.known in
     unread_by s.among s.run s text has.run (sym at.among ∙ among) has.known (subst (λ (n : ℕ). is_among (line_of n text) ≡ false) rules (ap is_among (sym found_is) ∙ without))
 
 takes_by : (among : Bool) (state : Option RunState) (s : Stand) (text : List ℕ) (run : RunState) (t : Stand) → among ≡ true → state ≡ Some run
@@ -44,16 +45,16 @@ refuses_by false state s text run kept ruled is known h = absurd (let wrong : fa
 
 -- the line as the run's rules have it
 line_is : (m : Machine) (s : Stand) (text : List ℕ) (found : Option Line) (run : RunState) → KnowsAs m s → m.among ≡ true → s.run ≡ Some run
-    → found ≡ line_of m.reader.rules text → found ≡ line_of run.rules text
+    → found ≡ line_of (rules_at m.reader.place) text → found ≡ line_of run.rules text
 line_is m s text found run at among known is =
-    is ∙ ap (λ (n : ℕ). line_of n text) (ap (λ (q : Reader). q.rules) at.reader ∙ at.rules run (sym at.among ∙ among) known)
+    is ∙ ap (λ (n : ℕ). line_of n text) (ap (λ (q : Reader). rules_at q.place) at.reader ∙ at.rules run (sym at.among ∙ among) known)
 
 rules_of : (x run : RunState) → Some x ≡ Some run → x.rules ≡ run.rules
 rules_of x run is = let same : x ≡ run = cc in ap (λ (o : RunState). o.rules) same
 
 -- a further entry is taken
 pub takes_entry : (m : Machine) (s : Stand) (text : List ℕ) (r : Run) (e : Entry) (after : Run) → KnowsAs m s → m.among ≡ true → m.run ≡ Some r
-    → Some (line.Entry e) ≡ line_of m.reader.rules text → ((run : RunState) → IsRunSoFar true r run → TakesOn run e after)
+    → Some (line.Entry e) ≡ line_of (rules_at m.reader.place) text → ((run : RunState) → IsRunSoFar true r run → TakesOn run e after)
     → (t : Stand) × StandTakes s text t × KnowsAs (record m { run = Some after }) t
 takes_entry m s text r e after at among is found takes =
     let has = run_of s.among m.run s.run r at.run is in
@@ -64,7 +65,6 @@ takes_entry m s text r e after at among is found takes =
       takes_by s.among s.run s text has.run t (sym at.among ∙ among) has.known (subst (λ (l : Option Line). TakesEntry s has.run l t) line' (on.0, refl)),
       record {
         reader = at.reader;
-        sound = at.sound;
         empty = at.empty;
         among = at.among;
         outside = at.outside;
@@ -76,7 +76,7 @@ takes_entry m s text r e after at among is found takes =
 
 -- a segment's end is taken
 pub takes_end : (m : Machine) (s : Stand) (text : List ℕ) (r : Run) (count number : ℕ) (after : Run) → KnowsAs m s → m.among ≡ true → m.run ≡ Some r
-    → Some (line.End count) ≡ line_of m.reader.rules text → ((run : RunState) → IsRunSoFar true r run → EndsRun run count number after (Ok tt))
+    → Some (line.End count) ≡ line_of (rules_at m.reader.place) text → ((run : RunState) → IsRunSoFar true r run → EndsRun run count number after (Ok tt))
     → (t : Stand) × StandTakes s text t × KnowsAs (record m { run = Some after; among = false }) t
 takes_end m s text r count number after at among is found takes =
     let has = run_of s.among m.run s.run r at.run is in
@@ -87,7 +87,6 @@ takes_end m s text r count number after at among is found takes =
       takes_by s.among s.run s text has.run t (sym at.among ∙ among) has.known (subst (λ (l : Option Line). TakesEntry s has.run l t) line' (on.0, refl)),
       record {
         reader = at.reader;
-        sound = at.sound;
         empty = at.empty;
         among = refl;
         outside = at.outside;
@@ -99,7 +98,7 @@ takes_end m s text r count number after at among is found takes =
 
 -- an entry isn't taken
 pub differs_entry : (m : Machine) (s : Stand) (text : List ℕ) (r : Run) (e : Entry) (number : ℕ) (error : FollowError) → KnowsAs m s → m.among ≡ true → m.run ≡ Some r
-    → Some (line.Entry e) ≡ line_of m.reader.rules text → ((run : RunState) → IsRunSoFar true r run → DiffersBy run e number error) → RefusesLineAt s number text error
+    → Some (line.Entry e) ≡ line_of (rules_at m.reader.place) text → ((run : RunState) → IsRunSoFar true r run → DiffersBy run e number error) → RefusesLineAt s number text error
 differs_entry m s text r e number (wrong.Unreadable number') at among is found differs =
     let has = run_of s.among m.run s.run r at.run is in
     absurd (differs has.run (subst (λ (b : Bool). IsRunSoFar b r has.run) (sym at.among ∙ among) has.is))
@@ -112,14 +111,14 @@ differs_entry m s text r e number wrong.NoMemory at among is found differs = tt
 
 -- what an entry makes of the machine, or of the line
 pub entered_ok : (m : Machine) (s : Stand) (text : List ℕ) (r : Run) (e : Entry) (after : Run) (result : Result (Unit {0}) FollowError) → KnowsAs m s → m.among ≡ true → m.run ≡ Some r
-    → Some (line.Entry e) ≡ line_of m.reader.rules text → ((run : RunState) → IsRunSoFar true r run → OnOk result (TakesOn run e after))
+    → Some (line.Entry e) ≡ line_of (rules_at m.reader.place) text → ((run : RunState) → IsRunSoFar true r run → OnOk result (TakesOn run e after))
     → OnOk result ((t : Stand) × StandTakes s text t × KnowsAs (record m { run = Some after }) t)
 entered_ok m s text r e after (Ok done) at among is found takes = takes_entry m s text r e after at among is found takes
 entered_ok m s text r e after (Err error) at among is found takes = tt
 
 -- and a segment's end
 pub ended_ok : (m : Machine) (s : Stand) (text : List ℕ) (r : Run) (count number : ℕ) (after : Run) (result : Result (Unit {0}) FollowError) → KnowsAs m s → m.among ≡ true → m.run ≡ Some r
-    → Some (line.End count) ≡ line_of m.reader.rules text → ((run : RunState) → IsRunSoFar true r run → EndsRun run count number after result)
+    → Some (line.End count) ≡ line_of (rules_at m.reader.place) text → ((run : RunState) → IsRunSoFar true r run → EndsRun run count number after result)
     → OnOk result ((t : Stand) × StandTakes s text t × KnowsAs (record m { run = Some after; among = false }) t)
 ended_ok m s text r count number after (Ok done) at among is found ends = takes_end m s text r count number after at among is found ends
 ended_ok m s text r count number after (Err error) at among is found ends = tt

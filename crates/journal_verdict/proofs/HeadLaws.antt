@@ -1,13 +1,12 @@
 -- A line of an opening, or between segments.
-use Rattle.std.proofs.Common.{◌≡◌, ℕ, ◌+◌, ◌-◌, inl, inr, Bool, true, false, List, [], ◌∷◌, Option, Some, None, refl, sym, subst, ap, ◌∙◌, arith, length-append}
+use Rattle.std.proofs.Common.{◌≡◌, ℕ, ◌+◌, ◌-◌, ◌<◌, inl, inr, Bool, true, false, List, [], ◌∷◌, Option, Some, None, refl, sym, subst, ap, ◌∙◌, arith, length-append}
 use Rattle.std.specs.Prelude.{MatchOption, slice_index_or, if◌then◌else◌}
 use Rattle.journal_text.specs.Openings.{row_of}
 use Rattle.std.proofs.lemmas.Option.{cond_some}
 use Rattle.journal_text.specs.Readings.{line_of}
 use Rattle.journal_text.specs.declared.line.Line.{Line}
 use Rattle.journal_text.specs.declared.line.Line.TheVariants as line
-use Rattle.journal_text.specs.Kept.{IsSound}
-use Rattle.journal_text.specs.Reading.{TakesAt, TakesText, is_body, is_full}
+use Rattle.journal_text.specs.Reading.{TakesAt, TakesText, is_body, is_full, is_outside, rules_at}
 use Rattle.journal_text.specs.declared.reader.Reader.{Reader}
 use Rattle.journal_text.specs.declared.reader.TextPlace.{TextPlace}
 use Rattle.journal_text.specs.declared.reader.TextPlace.TheVariants as place
@@ -27,9 +26,9 @@ record OneMore (r q : Reader) (p : TextPlace) : Type 0 where
   more : is_body q.place ≡ false → lines_taken q.place ≡ lines_taken p + 1
 
 -- the reader came to this place
-at_place : (r q : Reader) (p : TextPlace) (rules : ℕ) (to : TextPlace) → q ≡ record { rules = rules; place = to; done = r.done }
+at_place : (r q : Reader) (p to : TextPlace) → q ≡ record { place = to; done = r.done }
     → (is_body to ≡ false → lines_taken to ≡ lines_taken p + 1) → OneMore r q p
-at_place r q p rules to is more = record {
+at_place r q p to is more = record {
   same = ap (λ (x : Reader). x.done) is;
   more = λ shut. subst (λ (x : TextPlace). is_body x ≡ false → lines_taken x ≡ lines_taken p + 1) (sym (ap (λ (x : Reader). x.place) is)) more shut;
 }
@@ -45,38 +44,38 @@ of_none true h = absurd (nothing h)
 of_none false h = of_some h
 
 -- by the line and the place
-one_more : (r q : Reader) (p : TextPlace) (l : Line) → TakesAt r p l (Some q) → is_body p ≡ false → OneMore r q p
-one_more r q place.Outside (line.Rules v) h shut = at_place r q place.Outside v place.Ruled (sym (cond_some _ _ _ (sym h)).1) (λ _. refl)
-one_more r q place.Outside (line.Balancer name values) h shut = absurd (nothing h)
-one_more r q place.Outside (line.Member name route v) h shut = absurd (nothing h)
-one_more r q place.Outside (line.Lease t m) h shut = absurd (nothing h)
-one_more r q place.Outside (line.From b) h shut = absurd (nothing h)
-one_more r q place.Outside (line.Entry e) h shut = absurd (nothing h)
-one_more r q place.Outside (line.End c) h shut = absurd (nothing h)
-one_more r q place.Ruled (line.Balancer name values) h shut = at_place r q place.Ruled r.rules _ (of_some h) (λ _. refl)
-one_more r q place.Ruled (line.Rules v) h shut = absurd (nothing h)
-one_more r q place.Ruled (line.Member name route v) h shut = absurd (nothing h)
-one_more r q place.Ruled (line.Lease t m) h shut = absurd (nothing h)
-one_more r q place.Ruled (line.From b) h shut = absurd (nothing h)
-one_more r q place.Ruled (line.Entry e) h shut = absurd (nothing h)
-one_more r q place.Ruled (line.End c) h shut = absurd (nothing h)
-one_more r q (place.Heading d) (line.Member name route v) h shut =
-    at_place r q (place.Heading d) r.rules _ (of_none (is_full d) h) (λ _. omega (arith, length-append d.rows (row_of name v ∷ [])))
-one_more r q (place.Heading d) (line.Lease t m) h shut =
-    at_place r q (place.Heading d) r.rules _ (sym (cond_some _ _ _ (sym h)).1) (λ _. omega (arith, length-append d.out ((t, m) ∷ [])))
-one_more r q (place.Heading d) (line.From b) h shut = at_place r q (place.Heading d) r.rules _ h.4 (λ body. absurd (let wrong : true ≡ false = body in cc))
-one_more r q (place.Heading d) (line.Rules v) h shut = absurd (nothing h)
-one_more r q (place.Heading d) (line.Balancer name values) h shut = absurd (nothing h)
-one_more r q (place.Heading d) (line.Entry e) h shut = absurd (nothing h)
-one_more r q (place.Heading d) (line.End c) h shut = absurd (nothing h)
-one_more r q (place.Body name o entries) l h shut = absurd (let wrong : true ≡ false = shut in cc)
+one_more : (r q : Reader) (p : TextPlace) (l : Line) → TakesAt r.done p l (Some q) → is_body p ≡ false → OneMore r q p
+one_more r q (place.Outside former) (line.Rules v) h shut = at_place r q (place.Outside former) (place.Ruled v) (sym (cond_some _ _ _ (sym h)).1) (λ _. refl)
+one_more r q (place.Outside former) (line.Balancer name values) h shut = absurd (nothing h)
+one_more r q (place.Outside former) (line.Member name route v) h shut = absurd (nothing h)
+one_more r q (place.Outside former) (line.Lease t m) h shut = absurd (nothing h)
+one_more r q (place.Outside former) (line.From b) h shut = absurd (nothing h)
+one_more r q (place.Outside former) (line.Entry e) h shut = absurd (nothing h)
+one_more r q (place.Outside former) (line.End c) h shut = absurd (nothing h)
+one_more r q (place.Ruled rules) (line.Balancer name values) h shut = at_place r q (place.Ruled rules) _ (of_some h) (λ _. refl)
+one_more r q (place.Ruled rules) (line.Rules v) h shut = absurd (nothing h)
+one_more r q (place.Ruled rules) (line.Member name route v) h shut = absurd (nothing h)
+one_more r q (place.Ruled rules) (line.Lease t m) h shut = absurd (nothing h)
+one_more r q (place.Ruled rules) (line.From b) h shut = absurd (nothing h)
+one_more r q (place.Ruled rules) (line.Entry e) h shut = absurd (nothing h)
+one_more r q (place.Ruled rules) (line.End c) h shut = absurd (nothing h)
+one_more r q (place.Heading rules d) (line.Member name route v) h shut =
+    at_place r q (place.Heading rules d) _ (of_none (is_full d) h) (λ _. omega (arith, length-append d.rows (row_of name v ∷ [])))
+one_more r q (place.Heading rules d) (line.Lease t m) h shut =
+    at_place r q (place.Heading rules d) _ (sym (cond_some _ _ _ (sym h)).1) (λ _. omega (arith, length-append d.out ((t, m) ∷ [])))
+one_more r q (place.Heading rules d) (line.From b) h shut = at_place r q (place.Heading rules d) _ h.3 (λ body. absurd (let wrong : true ≡ false = body in cc))
+one_more r q (place.Heading rules d) (line.Rules v) h shut = absurd (nothing h)
+one_more r q (place.Heading rules d) (line.Balancer name values) h shut = absurd (nothing h)
+one_more r q (place.Heading rules d) (line.Entry e) h shut = absurd (nothing h)
+one_more r q (place.Heading rules d) (line.End c) h shut = absurd (nothing h)
+one_more r q (place.Body name s) l h shut = absurd (let wrong : true ≡ false = shut in cc)
 
-by_line : (r q : Reader) (found : Option Line) → MatchOption found (Some q ≡ None) (λ l. TakesAt r r.place l (Some q)) → is_body r.place ≡ false → OneMore r q r.place
+by_line : (r q : Reader) (found : Option Line) → MatchOption found (Some q ≡ None) (λ l. TakesAt r.done r.place l (Some q)) → is_body r.place ≡ false → OneMore r q r.place
 by_line r q None h shut = absurd (nothing h)
 by_line r q (Some l) h shut = one_more r q r.place l h shut
 
 head_more : (r q : Reader) (text : List ℕ) → TakesText r text (Some q) → is_body r.place ≡ false → OneMore r q r.place
-head_more r q text h shut = by_line r q (line_of r.rules text) h shut
+head_more r q text h shut = by_line r q (line_of (rules_at r.place) text) h shut
 
 -- what ought to stand there is what the run ended with
 expects : (r : Run) (run : RunState) (taken at : ℕ) (text : List ℕ) → IsRunSoFar false r run → taken ≡ at → ((v : ℕ) → text ≡ expected_at v r (taken - 1)) → IsExpected run (at - 1) text
@@ -92,12 +91,12 @@ agrees_by : (found : Option Run) (state : Option RunState) (p : TextPlace) (take
 agrees_by None None p taken text has same shut fits = tt
 agrees_by None (Some run) p taken text has same shut fits = absurd has
 agrees_by (Some r) None p taken text has same shut fits = absurd has
-agrees_by (Some r) (Some run) place.Outside taken text has same shut fits = tt
-agrees_by (Some r) (Some run) place.Ruled taken text has same shut (inl none) = absurd (omega (arith, same, none))
-agrees_by (Some r) (Some run) place.Ruled taken text has same shut (inr eq) = expects r run taken 1 text has same eq
-agrees_by (Some r) (Some run) (place.Heading d) taken text has same shut (inl none) = absurd (omega (arith, same, none))
-agrees_by (Some r) (Some run) (place.Heading d) taken text has same shut (inr eq) = expects r run taken _ text has same eq
-agrees_by (Some r) (Some run) (place.Body name o entries) taken text has same shut fits = absurd (let wrong : true ≡ false = shut in cc)
+agrees_by (Some r) (Some run) (place.Outside former) taken text has same shut fits = tt
+agrees_by (Some r) (Some run) (place.Ruled rules) taken text has same shut (inl none) = absurd (omega (arith, same, none))
+agrees_by (Some r) (Some run) (place.Ruled rules) taken text has same shut (inr eq) = expects r run taken 1 text has same eq
+agrees_by (Some r) (Some run) (place.Heading rules d) taken text has same shut (inl none) = absurd (omega (arith, same, none))
+agrees_by (Some r) (Some run) (place.Heading rules d) taken text has same shut (inr eq) = expects r run taken _ text has same eq
+agrees_by (Some r) (Some run) (place.Body name segment) taken text has same shut fits = absurd (let wrong : true ≡ false = shut in cc)
 
 takes_shut : (among : Bool) (state : Option RunState) (s : Stand) (text : List ℕ) (t : Stand) → among ≡ false → TakesHead s text t → TakesLine among state s text t
 takes_shut false state s text t shut h = h
@@ -116,10 +115,16 @@ goes_on m s text read n at shut takes fits adds =
     let more = head_more s.reader read text takes' at.outside in
     let has = subst (λ (b : Bool). HasRunState b m.run s.run) shut' at.run in
     let agrees = agrees_by m.run s.run s.reader.place m.taken text has at.taken at.outside fits in (
-      headed s read.rules read.place read,
+      headed s read.place read,
       takes_shut s.among s.run s text _ shut' (record { read = read; takes = takes'; agrees = agrees; stands = refl }),
       adds (more.same ∙ at.empty) (λ shut''. omega (arith, more.more shut'', at.taken)) has,
     )
+
+not_outside : (p : TextPlace) → 0 < lines_taken p → is_outside p ≡ false
+not_outside (place.Outside former) h = absurd (omega (arith, h))
+not_outside (place.Ruled rules) h = refl
+not_outside (place.Heading rules d) h = refl
+not_outside (place.Body name segment) h = refl
 
 differs_by : (found : Option Run) (s : Stand) (taken : ℕ) (text ruled : List ℕ) (read : Reader) → HasRunState false found s.run → taken ≡ lines_taken s.reader.place
     → TakesText s.reader text (Some read) → Misfits found taken text ruled → IsBadLine false s.run s text (ruling.Line text) (ruling.Line ruled)
@@ -134,7 +139,7 @@ differs_by found s taken text ruled read has same takes misfits = by found s.run
       takes = takes;
       run = run;
       known = known;
-      inside = λ is. omega (arith, misfits.0, same, ap lines_taken is);
+      inside = not_outside s.reader.place (omega (arith, misfits.0, same));
       expected = ruled;
       ends = expects r run taken (lines_taken s.reader.place) ruled has same (λ v. (misfits.1 v).0);
       other = (misfits.1 0).1;
@@ -152,13 +157,12 @@ goes_wrong m s text ruled read number e at shut takes misfits is =
     rw is (refl, bad_shut s.among s.run s text _ _ shut' (differs_by m.run s m.taken text ruled read has at.taken takes' misfits))
 
 -- no opening is whole yet
-pub stays : (s : Stand) (read : Reader) (m : Machine) → IsSound read → is_body read.place ≡ false → m.reader ≡ read → m.among ≡ false → AddsHead s read m.taken m.run m
-stays s read m sound shut same closed empty taken has = by read.place refl
+pub stays : (s : Stand) (read : Reader) (m : Machine) → is_body read.place ≡ false → m.reader ≡ read → m.among ≡ false → AddsHead s read m.taken m.run m
+stays s read m shut same closed empty taken has = by read.place refl
   where
     at : KnowsAs m (record { reader = read; run = s.run; among = false })
     at = record {
       reader = same;
-      sound = sound;
       empty = empty;
       among = closed;
       outside = shut;
@@ -167,8 +171,8 @@ stays s read m sound shut same closed empty taken has = by read.place refl
       rules = λ run there known. absurd (let wrong : false ≡ true = there in cc);
     }
 
-    by : (p : TextPlace) → read.place ≡ p → KnowsAs m (headed s read.rules p read)
-    by place.Outside is = at
-    by place.Ruled is = at
-    by (place.Heading d) is = at
-    by (place.Body name o entries) is = absurd (let wrong : true ≡ false = sym (ap is_body is) ∙ shut in cc)
+    by : (p : TextPlace) → read.place ≡ p → KnowsAs m (headed s p read)
+    by (place.Outside former) is = at
+    by (place.Ruled rules) is = at
+    by (place.Heading rules d) is = at
+    by (place.Body name segment) is = absurd (let wrong : true ≡ false = sym (ap is_body is) ∙ shut in cc)

@@ -29,36 +29,36 @@ use Rattle.journal_verdict.specs.declared.reached.Check.TheVariants as check
 use Rattle.journal_verdict.specs.declared.reached.Reached.{Reached}
 
 -- a segment's lines are those before its entries, a line for each entry, and the last one
-pub lines_whole : (c : Counted) → length (lines_of c) ≡ lines_before c + length c.entries + 1
+pub lines_whole : (c : Counted) → length (lines_of c) ≡ lines_before c + length c.segment.entries + 1
 lines_whole c =
     omega (
       arith,
-      length-append (opening_lines c.name c.opening) (entry_lines c.entries ++ line.End c.count ∷ []),
-      length-append (entry_lines c.entries) (line.End c.count ∷ []),
-      length-map c.entries (λ e. line.Entry e),
+      length-append (opening_lines c.name c.segment.opening) (entry_lines c.segment.entries ++ line.End c.count ∷ []),
+      length-append (entry_lines c.segment.entries) (line.End c.count ∷ []),
+      length-map c.segment.entries (λ e. line.Entry e),
     )
 
 -- a place of the opening is one of the segment's lines
 opening_within : (former : List ℕ) (ending : Opening) (c : Counted) (w : Wrong)
-    → IsDifference (opening_texts c.rules c.name c.opening) (opening_texts c.rules former ending) w → w.at < length (opening_lines c.name c.opening)
+    → IsDifference (opening_texts c.segment.rules c.name c.segment.opening) (opening_texts c.segment.rules former ending) w → w.at < length (opening_lines c.name c.segment.opening)
 unfolding opening_texts
 opening_within former ending c w d =
     omega (
       arith,
-      slice_get_within (opening_texts c.rules c.name c.opening) w.at d.0 d.4.here,
-      length-map (opening_lines c.name c.opening) (λ l. line_text c.rules l),
+      slice_get_within (opening_texts c.segment.rules c.name c.segment.opening) w.at d.0 d.4.here,
+      length-map (opening_lines c.name c.segment.opening) (λ l. line_text c.segment.rules l),
     )
 
 wrong_opening : (former : List ℕ) (ending : Opening) (c : Counted) (w : Wrong)
-    → IsDifference (opening_texts c.rules c.name c.opening) (opening_texts c.rules former ending) w
+    → IsDifference (opening_texts c.segment.rules c.name c.segment.opening) (opening_texts c.segment.rules former ending) w
     → IsWrongAt (Some (former, ending)) c (1 + w.at) w.kept w.ruled
 wrong_opening former ending c w d =
     subst (λ (k : Ruling). IsWrongAt (Some (former, ending)) c (1 + w.at) k w.ruled) (sym d.2) (w.at, d.1, refl, d.3, d.4)
 
 -- what was found in two openings
 judged_opening : (former : List ℕ) (ending : Opening) (c : Counted) (r : Result (Option Wrong) NoMemory)
-    → IfOk r (λ found. IfNone found (opening_texts c.rules c.name c.opening ≡ opening_texts c.rules former ending))
-    → IfOk r (λ found. IfSome found (IsDifference (opening_texts c.rules c.name c.opening) (opening_texts c.rules former ending)))
+    → IfOk r (λ found. IfNone found (opening_texts c.segment.rules c.name c.segment.opening ≡ opening_texts c.segment.rules former ending))
+    → IfOk r (λ found. IfSome found (IsDifference (opening_texts c.segment.rules c.name c.segment.opening) (opening_texts c.segment.rules former ending)))
     → IfOk r (JudgesOpening (Some (former, ending)) c)
 judged_opening former ending c (Err e) same wrong = tt
 judged_opening former ending c (Ok None) same wrong = same
@@ -66,18 +66,18 @@ judged_opening former ending c (Ok (Some w)) same wrong = (wrong_opening former 
 
 -- so, of names that were lent
 pub judges_opening : (own name former : List ℕ) (ending : Opening) (c : Counted) (r : Result (Option Wrong) NoMemory) → own ≡ c.name → name ≡ former
-    → ((v : ℕ) → IfOk r (λ found. IfNone found (opening_texts v own c.opening ≡ opening_texts v name ending)))
-    → ((v : ℕ) → IfOk r (λ found. IfSome found (IsDifference (opening_texts v own c.opening) (opening_texts v name ending))))
+    → ((v : ℕ) → IfOk r (λ found. IfNone found (opening_texts v own c.segment.opening ≡ opening_texts v name ending)))
+    → ((v : ℕ) → IfOk r (λ found. IfSome found (IsDifference (opening_texts v own c.segment.opening) (opening_texts v name ending))))
     → IfOk r (JudgesOpening (Some (former, ending)) c)
 judges_opening own name former ending c r mine its same wrong =
     judged_opening former ending c r
-    (subst (λ (n : List ℕ). IfOk r (λ found. IfNone found (opening_texts c.rules n c.opening ≡ opening_texts c.rules former ending))) mine
-    (subst (λ (n : List ℕ). IfOk r (λ found. IfNone found (opening_texts c.rules own c.opening ≡ opening_texts c.rules n ending))) its (same c.rules)))
-    (subst (λ (n : List ℕ). IfOk r (λ found. IfSome found (IsDifference (opening_texts c.rules n c.opening) (opening_texts c.rules former ending)))) mine
-    (subst (λ (n : List ℕ). IfOk r (λ found. IfSome found (IsDifference (opening_texts c.rules own c.opening) (opening_texts c.rules n ending)))) its (wrong c.rules)))
+    (subst (λ (n : List ℕ). IfOk r (λ found. IfNone found (opening_texts c.segment.rules n c.segment.opening ≡ opening_texts c.segment.rules former ending))) mine
+    (subst (λ (n : List ℕ). IfOk r (λ found. IfNone found (opening_texts c.segment.rules own c.segment.opening ≡ opening_texts c.segment.rules n ending))) its (same c.segment.rules)))
+    (subst (λ (n : List ℕ). IfOk r (λ found. IfSome found (IsDifference (opening_texts c.segment.rules n c.segment.opening) (opening_texts c.segment.rules former ending)))) mine
+    (subst (λ (n : List ℕ). IfOk r (λ found. IfSome found (IsDifference (opening_texts c.segment.rules own c.segment.opening) (opening_texts c.segment.rules n ending)))) its (wrong c.segment.rules)))
 
 wrong_entry : (former : Former) (c : Counted) (i place : ℕ) (kept ruled : Ruling) → Joins former c → i ≡ lines_before c + place
-    → IsFirstWrong c.rules c.opening c.entries place kept ruled → IsWrongAt former c i kept ruled
+    → IsFirstWrong c.segment.rules c.segment.opening c.segment.entries place kept ruled → IsWrongAt former c i kept ruled
 wrong_entry former c i place (ruling.Answer a) ruled joins is first = (joins, (place, is, first))
 wrong_entry former c i place (ruling.Seq n) ruled joins is first = (joins, (place, is, first))
 wrong_entry former c i place (ruling.Moment at) ruled joins is first = (joins, (place, is, first))
@@ -90,14 +90,14 @@ wrong_entry former c i place ruling.Full ruled joins is first = absurd first.dif
 
 -- the verdict on an entry
 after_entry : (r : Reached) (c : Counted) (before : ℕ) (w : Wrong) (v : Verdict) → Joins r.former c → before ≡ lines_before c
-    → IsFirstWrong c.rules c.opening c.entries w.at w.kept w.ruled
+    → IsFirstWrong c.segment.rules c.segment.opening c.segment.entries w.at w.kept w.ruled
     → v ≡ verdict.Bad (r.lines + (before + w.at) + 1) w.kept w.ruled → After r c (check.Bad v)
 after_entry r c before w v joins lines first is =
     (before + w.at, w.kept, w.ruled, wrong_entry r.former c (before + w.at) w.at w.kept w.ruled joins (ap (λ n. n + w.at) lines) first, is)
 
 -- the verdict on the last line
 after_count : (r : Reached) (c : Counted) (before : ℕ) (w : Wrong) (v : Verdict) → Joins r.former c → before ≡ lines_before c
-    → IsLegal c.rules c.opening c.entries → IsOtherCount (length c.entries) c.count w
+    → IsLegal c.segment.rules c.segment.opening c.segment.entries → IsOtherCount (length c.segment.entries) c.count w
     → v ≡ verdict.Bad (r.lines + (before + w.at) + 1) w.kept w.ruled → After r c (check.Bad v)
 after_count r c before w v joins lines legal other is = (
   before + w.at,
@@ -110,7 +110,7 @@ after_count r c before w v joins lines legal other is = (
 
 -- the verdict on one of them
 after_wrong_of : (r : Reached) (c : Counted) (before : ℕ) (w : Wrong) (v : Verdict) → Joins r.former c → before ≡ lines_before c
-    → IsFirstWrong c.rules c.opening c.entries w.at w.kept w.ruled ⊎ (IsLegal c.rules c.opening c.entries × IsOtherCount (length c.entries) c.count w)
+    → IsFirstWrong c.segment.rules c.segment.opening c.segment.entries w.at w.kept w.ruled ⊎ (IsLegal c.segment.rules c.segment.opening c.segment.entries × IsOtherCount (length c.segment.entries) c.count w)
     → v ≡ verdict.Bad (r.lines + (before + w.at) + 1) w.kept w.ruled → After r c (check.Bad v)
 after_wrong_of r c before w v joins lines (inl first) is = after_entry r c before w v joins lines first is
 after_wrong_of r c before w v joins lines (inr (legal, other)) is = after_count r c before w v joins lines legal other is
@@ -145,7 +145,7 @@ after_opening r c w v wrong is = (1 + w.at, w.kept, w.ruled, wrong, is)
 
 -- a segment that is right, and where it ends
 after_right : (r : Reached) (c : Counted) (ending : Opening) (q : Reached) → Joins r.former c
-    → Leaves c.rules c.opening c.entries c.count (Ok ending) → q ≡ past r c ending → After r c (check.Good q)
+    → Leaves c.segment.rules c.segment.opening c.segment.entries c.count (Ok ending) → q ≡ past r c ending → After r c (check.Good q)
 after_right r c ending q joins leaves is = (
   record { joins = joins; legal = leaves.0; counted = leaves.1 },
   subst (λ f. IsFormer f) (sym (ap (λ (x : Reached). x.former) is)) leaves.3,
@@ -162,7 +162,7 @@ after_ends r c (Ok (check.Bad v)) joins ends = after_wrong_of r c (lines_before 
 
 -- an entry or the last line is wrong
 pub ends_wrong : (lines entries : ℕ) (c : Counted) (before : ℕ) (w : Wrong) (v : Verdict) → before ≡ lines_before c
-    → Leaves c.rules c.opening c.entries c.count (Err w) → v ≡ verdict.Bad (lines + (before + w.at) + 1) w.kept w.ruled
+    → Leaves c.segment.rules c.segment.opening c.segment.entries c.count (Err w) → v ≡ verdict.Bad (lines + (before + w.at) + 1) w.kept w.ruled
     → EndsSegment lines entries c (check.Bad v)
 ends_wrong lines entries c before w v here leaves is =
     (w, leaves, is ∙ ap (λ n. verdict.Bad (lines + (n + w.at) + 1) w.kept w.ruled) here)
@@ -172,7 +172,7 @@ reached_so f l e = record { former = f; lines = l; entries = e }
 
 -- what is reached after a segment, by its parts
 past_is : (r : Reached) (c : Counted) (ending : Opening) (name : List ℕ) (lines entries : ℕ) → name ≡ c.name → lines ≡ r.lines + length (lines_of c)
-    → entries ≡ r.entries + length c.entries → reached_so (Some (name, ending)) lines entries ≡ past r c ending
+    → entries ≡ r.entries + length c.segment.entries → reached_so (Some (name, ending)) lines entries ≡ past r c ending
 past_is r c ending name lines entries same line entry =
     ap (λ (x : List ℕ). reached_so (Some (x, ending)) lines entries) same
     ∙ ap (λ n. reached_so (Some (c.name, ending)) n entries) line
@@ -180,6 +180,6 @@ past_is r c ending name lines entries same line entry =
 
 -- each of them is right
 pub ends_right : (lines entries : ℕ) (c : Counted) (name : List ℕ) (ending : Opening) (l e : ℕ) → LeavesAs c (Ok (name, ending))
-    → l ≡ lines + length (lines_of c) → e ≡ entries + length c.entries → EndsSegment lines entries c (check.Good (reached_so (Some (name, ending)) l e))
+    → l ≡ lines + length (lines_of c) → e ≡ entries + length c.segment.entries → EndsSegment lines entries c (check.Good (reached_so (Some (name, ending)) l e))
 ends_right lines entries c name ending l e leaves line entry =
     (ending, leaves.1, past_is (record { former = None; lines = lines; entries = entries }) c ending name l e leaves.0 line entry)

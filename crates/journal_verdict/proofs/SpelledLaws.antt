@@ -11,6 +11,7 @@ use Rattle.lb_model.specs.declared.journal.Entry.{Entry}
 use Rattle.lb_model.specs.declared.member.MemberConfig.{MemberConfig}
 use Rattle.lb_model.specs.declared.member.Method.{Method}
 use Rattle.lb_model.specs.declared.opening.Opening.{Opening}
+use Rattle.lb_model.specs.declared.segment.Segment.{Segment}
 use Rattle.lb_model.specs.declared.view.MemberRow.{MemberRow}
 use Rattle.play_script.specs.Parts.{parts_of}
 use Rattle.journal_text.specs.Lines.{line_text, lines_text}
@@ -21,8 +22,8 @@ use Rattle.journal_text.specs.declared.line.Line.{Line}
 use Rattle.journal_text.specs.declared.line.Line.TheVariants as line
 use Rattle.journal_text.specs.declared.line.MemberValues.{MemberValues}
 use Rattle.journal_text.proofs.LineLaws.{line_spelled}
-use Rattle.journal_text.specs.Openings.{AreCounted, IsOpened, config_of, row_of}
-use Rattle.journal_text.specs.Reading.{ReadsLines, ReadsText, TakesAt, TakesText, at_start, begun, continued, ended, headed, is_end, is_full, is_outside, named, opened, readable, unreadable, with_member, with_ticket}
+use Rattle.journal_text.specs.Openings.{AreCounted, Begins, IsOpened, config_of, row_of}
+use Rattle.journal_text.specs.Reading.{Continues, Heads, ReadsLines, ReadsText, TakesAt, TakesText, at_start, begun, ended, headed, in_body, is_end, is_full, is_outside, named, readable, rules_at, unreadable, with_entry, with_member, with_ticket}
 use Rattle.journal_text.specs.SegmentText.{balancer_values, beginning, entry_lines, lease_lines, member_line, member_lines, opening_lines}
 use Rattle.journal_text.specs.Written.{lines_of, texts_of}
 use Rattle.journal_text.specs.declared.counted.Counted.{Counted}
@@ -36,17 +37,17 @@ use Rattle.journal_text.specs.declared.reader.Reader.{Reader}
 abbrev drafted : (v : ℕ) → OpeningDraft → List Line
 drafted v d = line.Rules v ∷ line.Balancer d.name d.values ∷ (member_lines d.members d.rows ++ lease_lines d.out)
 
-abbrev opened_by : (v : ℕ) (name : List ℕ) → Opening → List Entry → List Line
-opened_by v name o entries = line.Rules v ∷ (opening_lines name o ++ entry_lines entries)
+abbrev begun_by : (name : List ℕ) → Segment → List Line
+begun_by name s = line.Rules s.rules ∷ (opening_lines name s.opening ++ entry_lines s.entries)
 
-abbrev lines_at : (v : ℕ) → TextPlace → List Line
-lines_at v place.Outside = []
-lines_at v place.Ruled = line.Rules v ∷ []
-lines_at v (place.Heading d) = drafted v d
-lines_at v (place.Body name o entries) = opened_by v name o entries
+abbrev lines_at : TextPlace → List Line
+lines_at (place.Outside former) = []
+lines_at (place.Ruled rules) = line.Rules rules ∷ []
+lines_at (place.Heading rules d) = drafted rules d
+lines_at (place.Body name s) = begun_by name s
 
 abbrev taken : Reader → List ℕ
-taken r = texts_of r.done ++ lines_text r.rules (lines_at r.rules r.place)
+taken r = texts_of r.done ++ lines_text (rules_at r.place) (lines_at r.place)
 
 -- a row for each member, and no ticket before the last member
 record IsOrdered (d : OpeningDraft) : Type 0 where
@@ -54,10 +55,10 @@ record IsOrdered (d : OpeningDraft) : Type 0 where
   later : is_full d ≡ false → d.out ≡ []
 
 abbrev IsOrderedAt : TextPlace → Type 0
-IsOrderedAt place.Outside = Unit {0}
-IsOrderedAt place.Ruled = Unit {0}
-IsOrderedAt (place.Heading d) = IsOrdered d
-IsOrderedAt (place.Body name o entries) = Unit {0}
+IsOrderedAt (place.Outside former) = Unit {0}
+IsOrderedAt (place.Ruled rules) = Unit {0}
+IsOrderedAt (place.Heading rules d) = IsOrdered d
+IsOrderedAt (place.Body name s) = Unit {0}
 
 -- ---- a line more in a text
 
@@ -73,10 +74,10 @@ text_more done v xs ys l h =
     ∙ ap (λ t. texts_of done ++ t) (line_more v xs l)
     ∙ sym (append_assoc (texts_of done) (lines_text v xs) (line_text v l ++ 10 ∷ []))
 
-texts_more : (done : List Counted) (c : Counted) → texts_of (done ++ c ∷ []) ≡ texts_of done ++ lines_text c.rules (lines_of c)
+texts_more : (done : List Counted) (c : Counted) → texts_of (done ++ c ∷ []) ≡ texts_of done ++ lines_text c.segment.rules (lines_of c)
 texts_more done c =
-    flat_map-append (λ (x : Counted). lines_text x.rules (lines_of x)) done (c ∷ [])
-    ∙ ap (λ t. texts_of done ++ t) (append-nil (lines_text c.rules (lines_of c)))
+    flat_map-append (λ (x : Counted). lines_text x.segment.rules (lines_of x)) done (c ∷ [])
+    ∙ ap (λ t. texts_of done ++ t) (append-nil (lines_text c.segment.rules (lines_of c)))
 
 -- ---- the lines of an opening
 
@@ -146,7 +147,7 @@ opened_members d b o is =
 
 -- the opening's lines are those of the draft, and the last one
 opened_lines : (v : ℕ) (d : OpeningDraft) (b : Beginning) (o : Opening) → IsOpened d b o → is_full d ≡ true
-    → opened_by v d.name o [] ≡ drafted v d ++ line.From b ∷ []
+    → line.Rules v ∷ (opening_lines d.name o ++ []) ≡ drafted v d ++ line.From b ∷ []
 opened_lines v d b o is full =
     ap (λ ls. line.Rules v ∷ ls) (append-nil (opening_lines d.name o))
     ∙ ap (λ x. line.Rules v ∷ line.Balancer d.name x ∷ (member_lines o.config.members o.rows ++ (lease_lines o.out ++ line.From (beginning o) ∷ []))) (opened_values d b o is full)
@@ -177,29 +178,26 @@ no_some q h = absurd (let none : Some q ≡ None = h in cc)
 adds_as : (r q x : Reader) (text : List ℕ) → q ≡ x → Adds r text x → Adds r text q
 adds_as r q x text h a = subst (λ y. Adds r text y) (sym h) a
 
-adds_outside : (v : ℕ) (done : List Counted) (q : Reader) (l : Line) (r : Reader) → r ≡ record { rules = v; place = place.Outside; done = done }
-    → Some q ≡ begun r l → Adds (record { rules = v; place = place.Outside; done = done }) (line_text v l) q
-adds_outside v done q (line.Rules w) r is h =
-    let x : Reader = record { rules = w; place = place.Ruled; done = r.done } in
-    let y : Reader = record { rules = w; place = place.Ruled; done = done } in
-    let same : q ≡ x = (then_parts _ q x h).1 in
-    adds_as (record { rules = v; place = place.Outside; done = done }) q y (line_text v (line.Rules w))
-    (same ∙ ap (λ (d : List Counted). record { rules = w; place = place.Ruled; done = d }) (ap (λ (z : Reader). z.done) is))
+adds_outside : (former : ℕ) (done : List Counted) (q : Reader) (l : Line) → Some q ≡ begun former done l
+    → Adds (record { place = place.Outside former; done = done }) (line_text former l) q
+adds_outside former done q (line.Rules w) h =
+    let x : Reader = record { place = place.Ruled w; done = done } in
+    adds_as (record { place = place.Outside former; done = done }) q x (line_text former (line.Rules w)) (then_parts _ q x h).1
     (tt, ap (λ t. texts_of done ++ t) (append-nil (line_text w (line.Rules w) ++ 10 ∷ [])) ∙ ap (λ t. t ++ (line_text w (line.Rules w) ++ 10 ∷ [])) (sym (append-nil (texts_of done))))
-adds_outside v done q (line.Balancer name b) r is h = no_some q h
-adds_outside v done q (line.Member name route b) r is h = no_some q h
-adds_outside v done q (line.Lease ticket member) r is h = no_some q h
-adds_outside v done q (line.From b) r is h = no_some q h
-adds_outside v done q (line.Entry e) r is h = no_some q h
-adds_outside v done q (line.End count) r is h = no_some q h
+adds_outside former done q (line.Balancer name b) h = no_some q h
+adds_outside former done q (line.Member name route b) h = no_some q h
+adds_outside former done q (line.Lease ticket member) h = no_some q h
+adds_outside former done q (line.From b) h = no_some q h
+adds_outside former done q (line.Entry e) h = no_some q h
+adds_outside former done q (line.End count) h = no_some q h
 
-adds_ruled : (v : ℕ) (done : List Counted) (q : Reader) (l : Line) → Some q ≡ named (record { rules = v; place = place.Ruled; done = done }) l
-    → Adds (record { rules = v; place = place.Ruled; done = done }) (line_text v l) q
+adds_ruled : (v : ℕ) (done : List Counted) (q : Reader) (l : Line) → Some q ≡ named v done l
+    → Adds (record { place = place.Ruled v; done = done }) (line_text v l) q
 adds_ruled v done q (line.Rules w) h = no_some q h
 adds_ruled v done q (line.Balancer name b) h =
-    let r : Reader = record { rules = v; place = place.Ruled; done = done } in
+    let r : Reader = record { place = place.Ruled v; done = done } in
     let d : OpeningDraft = record { name = name; values = b; members = []; rows = []; out = [] } in
-    adds_as r q (headed r d) (line_text v (line.Balancer name b)) (same_some q (headed r d) h)
+    adds_as r q (headed v done d) (line_text v (line.Balancer name b)) (same_some q (headed v done d) h)
     (record { even = refl; later = λ _. refl }, text_more done v (line.Rules v ∷ []) (drafted v d) (line.Balancer name b) refl)
 adds_ruled v done q (line.Member name route b) h = no_some q h
 adds_ruled v done q (line.Lease ticket member) h = no_some q h
@@ -227,15 +225,14 @@ lease_drafted v d ticket member =
     ∙ ap (λ ls. line.Rules v ∷ line.Balancer d.name d.values ∷ ls) (sym (append_assoc ms (lease_lines d.out) (l ∷ [])))
 
 adds_heading : (v : ℕ) (done : List Counted) (d : OpeningDraft) (q : Reader) (l : Line) → IsOrdered d
-    → TakesAt (record { rules = v; place = place.Heading d; done = done }) (place.Heading d) l (Some q)
-    → Adds (record { rules = v; place = place.Heading d; done = done }) (line_text v l) q
+    → Heads v done d l (Some q) → Adds (headed v done d) (line_text v l) q
 adds_heading v done d q (line.Rules w) ordered h = no_some q h
 adds_heading v done d q (line.Balancer name b) ordered h = no_some q h
 adds_heading v done d q (line.Member name route m) ordered h =
-    let r : Reader = record { rules = v; place = place.Heading d; done = done } in
+    let r : Reader = headed v done d in
     let x = with_member d name route m in
-    let parts = else_parts (is_full d) q (headed r x) h in
-    adds_as r q (headed r x) (line_text v (line.Member name route m)) parts.1 (
+    let parts = else_parts (is_full d) q (headed v done x) h in
+    adds_as r q (headed v done x) (line_text v (line.Member name route m)) parts.1 (
       record {
         even = omega (arith, ordered.even, length-append d.rows (row_of name m ∷ []), length-append d.members (config_of name route m ∷ []));
         later = λ _. ordered.later parts.0;
@@ -243,73 +240,75 @@ adds_heading v done d q (line.Member name route m) ordered h =
       text_more done v (drafted v d) (drafted v x) (line.Member name route m) (member_drafted v d name route m ordered parts.0),
     )
 adds_heading v done d q (line.Lease ticket member) ordered h =
-    let r : Reader = record { rules = v; place = place.Heading d; done = done } in
+    let r : Reader = headed v done d in
     let x = with_ticket d ticket member in
-    let parts = then_parts (is_full d) q (headed r x) h in
-    adds_as r q (headed r x) (line_text v (line.Lease ticket member)) parts.1 (
+    let parts = then_parts (is_full d) q (headed v done x) h in
+    adds_as r q (headed v done x) (line_text v (line.Lease ticket member)) parts.1 (
       record { even = ordered.even; later = λ none. absurd (let both : true ≡ false = sym parts.0 ∙ none in cc) },
       text_more done v (drafted v d) (drafted v x) (line.Lease ticket member) (lease_drafted v d ticket member),
     )
 adds_heading v done d q (line.From b) ordered h =
-    let r : Reader = record { rules = v; place = place.Heading d; done = done } in
-    let x = opened r d.name h.1 in
-    adds_as r q x (line_text v (line.From b)) h.4
-    (tt, text_more done v (drafted v d) (opened_by v d.name h.1 []) (line.From b) (opened_lines v d b h.1 h.2 h.0))
+    let s : Segment = h.1 in
+    let x = in_body done d.name s in
+    let is : Begins v d b s = h.2 in
+    let lines : begun_by d.name s ≡ drafted v d ++ line.From b ∷ [] =
+    ap (λ (es : List Entry). line.Rules s.rules ∷ (opening_lines d.name s.opening ++ entry_lines es)) is.entries
+    ∙ ap (λ n. line.Rules n ∷ (opening_lines d.name s.opening ++ [])) is.ruled
+    ∙ opened_lines v d b s.opening is.opening h.0 in
+    adds_as (headed v done d) q x (line_text v (line.From b)) h.3
+    (tt, ap (λ n. texts_of done ++ lines_text n (begun_by d.name s)) is.ruled ∙ text_more done v (drafted v d) (begun_by d.name s) (line.From b) lines)
 adds_heading v done d q (line.Entry e) ordered h = no_some q h
 adds_heading v done d q (line.End count) ordered h = no_some q h
 
-adds_body : (v : ℕ) (done : List Counted) (name : List ℕ) (o : Opening) (entries : List Entry) (q : Reader) (l : Line)
-    → Some q ≡ continued (record { rules = v; place = place.Body name o entries; done = done }) name o entries l
-    → Adds (record { rules = v; place = place.Body name o entries; done = done }) (line_text v l) q
-adds_body v done name o entries q (line.Rules w) h = no_some q h
-adds_body v done name o entries q (line.Balancer other b) h = no_some q h
-adds_body v done name o entries q (line.Member other route m) h = no_some q h
-adds_body v done name o entries q (line.Lease ticket member) h = no_some q h
-adds_body v done name o entries q (line.From b) h = no_some q h
-adds_body v done name o entries q (line.Entry e) h =
-    let r : Reader = record { rules = v; place = place.Body name o entries; done = done } in
-    let x : Reader = record { rules = v; place = place.Body name o (entries ++ e ∷ []); done = done } in
-    let more : opened_by v name o (entries ++ e ∷ []) ≡ opened_by v name o entries ++ line.Entry e ∷ [] =
-    ap (λ ls. line.Rules v ∷ (opening_lines name o ++ ls)) (map-append (λ (y : Entry). line.Entry y) entries (e ∷ []))
-    ∙ ap (λ ls. line.Rules v ∷ ls) (sym (append_assoc (opening_lines name o) (entry_lines entries) (line.Entry e ∷ []))) in
-    adds_as r q x (line_text v (line.Entry e)) (same_some q x h)
-    (tt, text_more done v (opened_by v name o entries) (opened_by v name o (entries ++ e ∷ [])) (line.Entry e) more)
-adds_body v done name o entries q (line.End count) h =
-    let r : Reader = record { rules = v; place = place.Body name o entries; done = done } in
-    let c : Counted = record { name = name; rules = v; opening = o; entries = entries; count = count } in
-    let x : Reader = record { rules = v; place = place.Outside; done = done ++ c ∷ [] } in
-    let more : lines_of c ≡ opened_by v name o entries ++ line.End count ∷ [] =
-    ap (λ ls. line.Rules v ∷ ls) (sym (append_assoc (opening_lines name o) (entry_lines entries) (line.End count ∷ []))) in
-    adds_as r q x (line_text v (line.End count)) (same_some q x h) (
+adds_body : (done : List Counted) (name : List ℕ) (s : Segment) (q : Reader) (l : Line) → Continues done name s l (Some q)
+    → Adds (in_body done name s) (line_text s.rules l) q
+adds_body done name s q (line.Rules w) h = no_some q h
+adds_body done name s q (line.Balancer other b) h = no_some q h
+adds_body done name s q (line.Member other route m) h = no_some q h
+adds_body done name s q (line.Lease ticket member) h = no_some q h
+adds_body done name s q (line.From b) h = no_some q h
+adds_body done name s q (line.Entry e) h =
+    let t : Segment = with_entry s e h.0 in
+    let more : begun_by name t ≡ begun_by name s ++ line.Entry e ∷ [] =
+    ap (λ ls. line.Rules s.rules ∷ (opening_lines name s.opening ++ ls)) (map-append (λ (y : Entry). line.Entry y) s.entries (e ∷ []))
+    ∙ ap (λ ls. line.Rules s.rules ∷ ls) (sym (append_assoc (opening_lines name s.opening) (entry_lines s.entries) (line.Entry e ∷ []))) in
+    adds_as (in_body done name s) q (in_body done name t) (line_text s.rules (line.Entry e)) (same_some q (in_body done name t) h.1)
+    (tt, text_more done s.rules (begun_by name s) (begun_by name t) (line.Entry e) more)
+adds_body done name s q (line.End count) h =
+    let c : Counted = record { name = name; segment = s; count = count } in
+    let x : Reader = record { place = place.Outside s.rules; done = done ++ c ∷ [] } in
+    let more : lines_of c ≡ begun_by name s ++ line.End count ∷ [] =
+    ap (λ ls. line.Rules s.rules ∷ ls) (sym (append_assoc (opening_lines name s.opening) (entry_lines s.entries) (line.End count ∷ []))) in
+    adds_as (in_body done name s) q x (line_text s.rules (line.End count)) (same_some q x h) (
       tt,
       append-nil (texts_of (done ++ c ∷ []))
           ∙ texts_more done c
-          ∙ text_more done v (opened_by v name o entries) (lines_of c) (line.End count) more,
+          ∙ text_more done s.rules (begun_by name s) (lines_of c) (line.End count) more,
     )
 
-adds_at : (v : ℕ) (p : TextPlace) (done : List Counted) (q : Reader) (l : Line) → IsOrderedAt p
-    → TakesAt (record { rules = v; place = p; done = done }) p l (Some q) → Adds (record { rules = v; place = p; done = done }) (line_text v l) q
-adds_at v place.Outside done q l ordered h = adds_outside v done q l (record { rules = v; place = place.Outside; done = done }) refl h
-adds_at v place.Ruled done q l ordered h = adds_ruled v done q l h
-adds_at v (place.Heading d) done q l ordered h = adds_heading v done d q l ordered h
-adds_at v (place.Body name o entries) done q l ordered h = adds_body v done name o entries q l h
+adds_at : (p : TextPlace) (done : List Counted) (q : Reader) (l : Line) → IsOrderedAt p
+    → TakesAt done p l (Some q) → Adds (record { place = p; done = done }) (line_text (rules_at p) l) q
+adds_at (place.Outside former) done q l ordered h = adds_outside former done q l h
+adds_at (place.Ruled rules) done q l ordered h = adds_ruled rules done q l h
+adds_at (place.Heading rules d) done q l ordered h = adds_heading rules done d q l ordered h
+adds_at (place.Body name s) done q l ordered h = adds_body done name s q l h
 
-adds_line : (r q : Reader) (text : List ℕ) (found : Option Line) → line_of r.rules text ≡ found → IsOrderedAt r.place
-    → MatchOption found (Some q ≡ None) (λ l. TakesAt r r.place l (Some q)) → Adds r text q
+adds_line : (r q : Reader) (text : List ℕ) (found : Option Line) → line_of (rules_at r.place) text ≡ found → IsOrderedAt r.place
+    → MatchOption found (Some q ≡ None) (λ l. TakesAt r.done r.place l (Some q)) → Adds r text q
 adds_line r q text None is ordered h = no_some q h
 adds_line r q text (Some l) is ordered h =
-    subst (λ t. Adds r t q) (sym (line_spelled r.rules text l is)) (adds_at r.rules r.place r.done q l ordered h)
+    subst (λ t. Adds r t q) (sym (line_spelled (rules_at r.place) text l is)) (adds_at r.place r.done q l ordered h)
 
 adds : (r q : Reader) (text : List ℕ) → IsOrderedAt r.place → TakesText r text (Some q) → Adds r text q
-adds r q text ordered h = adds_line r q text (line_of r.rules text) refl ordered h
+adds r q text ordered h = adds_line r q text (line_of (rules_at r.place) text) refl ordered h
 
 -- ---- the whole text
 
-outside_nothing : (v : ℕ) (p : TextPlace) → is_outside p ≡ true → lines_at v p ≡ []
-outside_nothing v place.Outside h = refl
-outside_nothing v place.Ruled h = absurd (let no : false ≡ true = h in cc)
-outside_nothing v (place.Heading d) h = absurd (let no : false ≡ true = h in cc)
-outside_nothing v (place.Body name o entries) h = absurd (let no : false ≡ true = h in cc)
+outside_nothing : (p : TextPlace) → is_outside p ≡ true → lines_at p ≡ []
+outside_nothing (place.Outside former) h = refl
+outside_nothing (place.Ruled rules) h = absurd (let no : false ≡ true = h in cc)
+outside_nothing (place.Heading rules d) h = absurd (let no : false ≡ true = h in cc)
+outside_nothing (place.Body name s) h = absurd (let no : false ≡ true = h in cc)
 
 empty_list : (xs : List ℕ) → length xs ≡ 0 → xs ≡ []
 empty_list [] h = refl
@@ -325,7 +324,7 @@ ended_text r number last cs h =
     let done : cs ≡ r.done = cc in
     ap (λ t. taken r ++ t) (empty_list last (eqb-true (length last) 0 parts.0))
     ∙ append-nil (taken r)
-    ∙ ap (λ ls. texts_of r.done ++ lines_text r.rules ls) (outside_nothing r.rules r.place place.0)
+    ∙ ap (λ ls. texts_of r.done ++ lines_text (rules_at r.place) ls) (outside_nothing r.place place.0)
     ∙ append-nil (texts_of r.done)
     ∙ ap texts_of (sym done))
     (λ no. absurd (let is : readable cs ≡ unreadable number = h ∙ cond-false (is_end r last) (readable r.done) (unreadable number) no in cc))

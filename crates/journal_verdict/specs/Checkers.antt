@@ -1,6 +1,5 @@
 -- The check of a text, as far as the text's lines were taken.
 use Rattle.std.specs.Prelude.{◌≡◌, ℕ, ◌+◌, ◌&&◌, Bool, true, false, nat_lt, List, [], ◌∷◌, length, Some, Result, Ok, Err}
-use Rattle.journal_text.specs.Kept.{IsSound}
 use Rattle.journal_text.specs.Reading.{RefusesTextLine, TakesText, is_end, is_over}
 use Rattle.journal_text.specs.declared.counted.Counted.{Counted}
 use Rattle.journal_text.specs.declared.reader.Reader.{Reader}
@@ -14,7 +13,6 @@ use Rattle.journal_verdict.specs.declared.reached.Check.{Check}
 
 -- The check of a text has taken these segments, and the lines of another one that its reader has.
 pub record HasTaken (c : Checker) (done : List Counted) : Type 0 where
-  pub sound : IsSound c.reader
   pub empty : c.reader.done ≡ []
   pub comes : Comes done c.check
   pub number : c.number ≡ 1 + lines_in done + lines_taken c.reader.place
@@ -34,8 +32,6 @@ Judged (c ∷ d ∷ cs) k some new = Unit {0}
 
 -- The reader goes on that has taken a line, and so does the check with the segment that ended with it, if one did.
 pub record CheckGoesOn (r : Reader) (k : Check) (some : Bool) (number : ℕ) (new : Checker) : Type 0 where
-  pub sound : IsSound new.reader
-  pub versions : new.reader.rules ≡ r.rules
   pub stands : new.reader.place ≡ r.place
   pub counted : new.number ≡ number
   pub judged : Judged r.done k some new

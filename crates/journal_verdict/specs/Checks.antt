@@ -31,7 +31,7 @@ abbrev pub past : Reached → Counted → Opening → Reached
 past r c ending = record {
   former = Some (c.name, ending);
   lines = r.lines + length (lines_of c);
-  entries = r.entries + length c.entries;
+  entries = r.entries + length c.segment.entries;
 }
 
 -- The former segment's end is an opening.
@@ -60,30 +60,30 @@ JudgesOpening former c (Some w) = IsWrongAt former c (1 + w.at) w.kept w.ruled �
 
 -- Where a segment's entries and their count lead, under its name.
 abbrev pub LeavesAs : Counted → Result (List ℕ × Opening) Wrong → Type 0
-LeavesAs c (Ok (name, ending)) = (name ≡ c.name) × Leaves c.rules c.opening c.entries c.count (Ok ending)
-LeavesAs c (Err w) = Leaves c.rules c.opening c.entries c.count (Err w)
+LeavesAs c (Ok (name, ending)) = (name ≡ c.name) × Leaves c.segment.rules c.segment.opening c.segment.entries c.count (Ok ending)
+LeavesAs c (Err w) = Leaves c.segment.rules c.segment.opening c.segment.entries c.count (Err w)
 
 -- The end of a segment whose opening is right, after this many lines and entries.
 abbrev pub EndsSegment : (lines entries : ℕ) → Counted → Check → Type 0
 EndsSegment lines entries c (check.Good q) =
-    (ending : Opening) × Leaves c.rules c.opening c.entries c.count (Ok ending)
+    (ending : Opening) × Leaves c.segment.rules c.segment.opening c.segment.entries c.count (Ok ending)
     × (q ≡ past (record { former = None; lines = lines; entries = entries }) c ending)
 EndsSegment lines entries c (check.Bad v) =
-    (w : Wrong) × Leaves c.rules c.opening c.entries c.count (Err w)
+    (w : Wrong) × Leaves c.segment.rules c.segment.opening c.segment.entries c.count (Err w)
     × (v ≡ verdict.Bad (lines + (lines_before c + w.at) + 1) w.kept w.ruled)
 
 -- The check after a further segment.
 abbrev pub After : Reached → Counted → Check → Type 0
 After r c (check.Good q) =
     IsRight r.former c × IsFormer q.former × (ending : Opening)
-    × IsEnding c.rules c.opening (reverse c.entries) ending × (q ≡ past r c ending)
+    × IsEnding c.segment.rules c.segment.opening (reverse c.segment.entries) ending × (q ≡ past r c ending)
 After r c (check.Bad v) =
     (i : ℕ) × (kept ruled : Ruling) × IsWrongAt r.former c i kept ruled × (v ≡ verdict.Bad (r.lines + i + 1) kept ruled)
 
 -- There is room for the numbers of a further segment's lines and entries.
 abbrev pub HasCountRoom : Check → Counted → Type 0
 HasCountRoom (check.Good q) c =
-    IsFormer q.former × (q.lines + length (lines_of c) < 2 ^ 32) × (q.entries + length c.entries < 2 ^ 64)
+    IsFormer q.former × (q.lines + length (lines_of c) < 2 ^ 32) × (q.entries + length c.segment.entries < 2 ^ 64)
 HasCountRoom (check.Bad v) c = Unit {0}
 
 -- The check after a further segment, unless one before it was wrong.
@@ -93,10 +93,10 @@ Leads (check.Bad v) c after = after ≡ check.Bad v
 
 -- How many lines of a segment were read.
 abbrev pub lines_taken : TextPlace → ℕ
-lines_taken place.Outside = 0
-lines_taken place.Ruled = 1
-lines_taken (place.Heading d) = 2 + length d.rows + length d.out
-lines_taken (place.Body name o entries) = 1 + length (opening_lines name o) + length entries
+lines_taken (place.Outside former) = 0
+lines_taken (place.Ruled rules) = 1
+lines_taken (place.Heading rules d) = 2 + length d.rows + length d.out
+lines_taken (place.Body name s) = 1 + length (opening_lines name s.opening) + length s.entries
 
 abbrev pub verdict_of : Check → Verdict
 verdict_of (check.Good q) = verdict.Good q.entries
@@ -114,4 +114,4 @@ Comes cs (check.Bad v) = AreBadSegments cs v
 
 -- The reader, with further segments before its own.
 abbrev pub front : List Counted → Reader → Reader
-front before r = record { rules = r.rules; place = r.place; done = before ++ r.done }
+front before r = record { place = r.place; done = before ++ r.done }

@@ -7,7 +7,7 @@ use Rattle.lb_model.specs.declared.opening.Opening.{Opening}
 use Rattle.journal_text.specs.Readings.{line_of}
 use Rattle.journal_text.specs.declared.line.Line.{Line}
 use Rattle.journal_text.specs.declared.line.Line.TheVariants as line
-use Rattle.journal_text.specs.Reading.{TakesText, at_start}
+use Rattle.journal_text.specs.Reading.{TakesText, at_start, is_outside}
 use Rattle.journal_text.specs.declared.reader.Reader.{Reader}
 use Rattle.journal_text.specs.declared.reader.TextPlace.{TextPlace}
 use Rattle.journal_text.specs.declared.reader.TextPlace.TheVariants as place
@@ -44,24 +44,24 @@ pub record IsExpected (run : RunState) (at : ℕ) (text : List ℕ) : Type 0 whe
 -- A line of an opening has what it ought to have: anything in the first opening, and else what the run ended with.
 abbrev pub Agrees : Option RunState → TextPlace → (text : List ℕ) → Type 0
 Agrees None p text = Unit {0}
-Agrees (Some run) place.Outside text = Unit {0}
+Agrees (Some run) (place.Outside former) text = Unit {0}
 Agrees (Some run) p text = IsExpected run (lines_taken p - 1) text
 
 -- after a line of an opening, or one between segments
-abbrev pub headed : Stand → (rules : ℕ) → TextPlace → Reader → Stand
-headed s rules (place.Body name o entries) q = record {
-  reader = record { rules = rules; place = place.Outside; done = q.done };
-  run = Some (record { name = name; rules = rules; opening = o; entries = [] });
+abbrev pub headed : Stand → TextPlace → Reader → Stand
+headed s (place.Body name segment) q = record {
+  reader = record { place = place.Outside segment.rules; done = q.done };
+  run = Some (record { name = name; rules = segment.rules; opening = segment.opening; entries = [] });
   among = true;
 }
-headed s rules other q = record { reader = q; run = s.run; among = false }
+headed s other q = record { reader = q; run = s.run; among = false }
 
 -- A line of an opening, or between segments, is taken.
 pub record TakesHead (s : Stand) (text : List ℕ) (t : Stand) : Type 0 where
   pub read : Reader
   pub takes : TakesText s.reader text (Some read)
   pub agrees : Agrees s.run s.reader.place text
-  pub stands : t ≡ headed s read.rules read.place read
+  pub stands : t ≡ headed s read.place read
 
 -- A line among the entries of a run is taken: a further entry, or the segment's end.
 abbrev pub TakesEntry : Stand → RunState → Option Line → Stand → Type 0
@@ -86,7 +86,7 @@ pub record DiffersHead (s : Stand) (text : List ℕ) (kept ruled : Ruling) : Typ
   pub takes : TakesText s.reader text (Some read)
   pub run : RunState
   pub known : s.run ≡ Some run
-  pub inside : s.reader.place ≢ place.Outside
+  pub inside : is_outside s.reader.place ≡ false
   pub expected : List ℕ
   pub ends : IsExpected run (lines_taken s.reader.place - 1) expected
   pub other : text ≢ expected

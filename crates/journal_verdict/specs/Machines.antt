@@ -14,8 +14,7 @@ use Rattle.journal_verdict.specs.declared.ruling.Ruling.TheVariants as ruling
 use Rattle.journal_verdict.specs.declared.error.FollowError.{FollowError}
 use Rattle.journal_verdict.specs.declared.error.FollowError.TheVariants as wrong
 use Rattle.jk_io.specs.declared.failures.NoMemory.{NoMemory}
-use Rattle.journal_text.specs.Kept.{IsSound}
-use Rattle.journal_text.specs.Reading.{is_body}
+use Rattle.journal_text.specs.Reading.{is_body, rules_at}
 use Rattle.journal_text.specs.declared.reader.Reader.{Reader}
 use Rattle.journal_verdict.specs.Checks.{lines_taken}
 use Rattle.journal_verdict.specs.Followed.{IsStoppedText, IsCutIntoLines, FollowsTo}
@@ -75,13 +74,12 @@ HasRunState among r run = ⊥
 -- The machine has what is known.
 pub record KnowsAs (m : Machine) (s : Stand) : Type 0 where
   pub reader : m.reader ≡ s.reader
-  pub sound : IsSound s.reader
   pub empty : s.reader.done ≡ []
   pub among : m.among ≡ s.among
   pub outside : is_body s.reader.place ≡ false
   pub taken : m.taken ≡ lines_taken s.reader.place
   pub run : HasRunState s.among m.run s.run
-  pub rules : (run : RunState) → s.among ≡ true → s.run ≡ Some run → s.reader.rules ≡ run.rules
+  pub rules : (run : RunState) → s.among ≡ true → s.run ≡ Some run → rules_at s.reader.place ≡ run.rules
 
 -- The line that ought to stand at this place where a run's Book is; an opening's lines don't depend on the rules.
 abbrev pub expected_at : (v : ℕ) → Run → (at : ℕ) → List ℕ
@@ -112,7 +110,7 @@ pub record IsViewOf (r : Run) (v : FollowView) : Type 0 where
 abbrev pub AddsHead : Stand → (read : Reader) → (taken : ℕ) → Option Run → Machine → Type 0
 AddsHead s read taken run m =
     read.done ≡ [] → (is_body read.place ≡ false → taken ≡ lines_taken read.place) → HasRunState false run s.run
-    → KnowsAs m (headed s read.rules read.place read)
+    → KnowsAs m (headed s read.place read)
 
 -- The knowledge of these bytes, of which `part` is no line yet.
 abbrev pub Knows : Known → (part bytes : List ℕ) → Type 0

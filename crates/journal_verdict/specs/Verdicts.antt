@@ -23,7 +23,7 @@ opening_texts rules name o = map (λ l. line_text rules l) (opening_lines name o
 
 -- How many lines of a segment stand before its entries.
 abbrev pub lines_before : Counted → ℕ
-lines_before c = 1 + length (opening_lines c.name c.opening)
+lines_before c = 1 + length (opening_lines c.name c.segment.opening)
 
 -- Two lists of lines are the same before a place, where they differ.
 pub record DifferAt (kept ruled : List (List ℕ)) (i : ℕ) (k r : List ℕ) : Type 0 where
@@ -44,27 +44,27 @@ Former = Option (List ℕ × Opening)
 -- A segment's opening has the lines of the former segment's end.
 abbrev pub Joins : Former → Counted → Type 0
 Joins None c = Unit {0}
-Joins (Some (name, ending)) c = opening_texts c.rules c.name c.opening ≡ opening_texts c.rules name ending
+Joins (Some (name, ending)) c = opening_texts c.segment.rules c.name c.segment.opening ≡ opening_texts c.segment.rules name ending
 
 -- Line i of a segment, from 0, is the first of its opening that differs from the former segment's end.
 abbrev pub IsWrongOpening : Former → Counted → (i : ℕ) → (kept : List ℕ) → (ruled : Ruling) → Type 0
 IsWrongOpening None c i kept ruled = ⊥
 IsWrongOpening (Some (name, ending)) c i kept ruled =
     (j : ℕ) × (text : List ℕ) × (i ≡ 1 + j) × (ruled ≡ ruling.Line text)
-    × DifferAt (opening_texts c.rules c.name c.opening) (opening_texts c.rules name ending) j kept text
+    × DifferAt (opening_texts c.segment.rules c.name c.segment.opening) (opening_texts c.segment.rules name ending) j kept text
 
 -- Line i of a segment is the first of its entries that doesn't follow from those before it.
 abbrev pub IsWrongEntry : Counted → (i : ℕ) → (kept ruled : Ruling) → Type 0
 IsWrongEntry c i kept ruled =
-    (place : ℕ) × (i ≡ lines_before c + place) × IsFirstWrong c.rules c.opening c.entries place kept ruled
+    (place : ℕ) × (i ≡ lines_before c + place) × IsFirstWrong c.segment.rules c.segment.opening c.segment.entries place kept ruled
 
 -- Line i of a segment is its last one, and says another count than that of its entries.
 pub record IsWrongCount (c : Counted) (i said : ℕ) (told : Ruling) : Type 0 where
-  pub legal : IsLegal c.rules c.opening c.entries
+  pub legal : IsLegal c.segment.rules c.segment.opening c.segment.entries
   pub kept : said ≡ c.count
-  pub ruled : told ≡ ruling.Count (length c.entries)
-  pub other : ¬ (c.count ≡ length c.entries)
-  pub line : i ≡ lines_before c + length c.entries
+  pub ruled : told ≡ ruling.Count (length c.segment.entries)
+  pub other : ¬ (c.count ≡ length c.segment.entries)
+  pub line : i ≡ lines_before c + length c.segment.entries
 
 -- Line i of a segment, from 0, is the first one that is wrong after the former segment.
 abbrev pub IsWrongAt : Former → Counted → (i : ℕ) → (kept ruled : Ruling) → Type 0
@@ -75,21 +75,21 @@ IsWrongAt former c i kept ruled = Joins former c × IsWrongEntry c i kept ruled
 -- A segment is right after the former one.
 pub record IsRight (former : Former) (c : Counted) : Type 0 where
   pub joins : Joins former c
-  pub legal : IsLegal c.rules c.opening c.entries
-  pub counted : c.count ≡ length c.entries
+  pub legal : IsLegal c.segment.rules c.segment.opening c.segment.entries
+  pub counted : c.count ≡ length c.segment.entries
 
 -- Segments are right, each after the one before it; the last one ends so.
 abbrev pub AreRight : Former → List Counted → (last : Former) → Type 0
 AreRight former [] last = last ≡ former
 AreRight former (c ∷ cs) last =
-    (ending : Opening) × IsRight former c × IsEnding c.rules c.opening (reverse c.entries) ending × AreRight (Some (c.name, ending)) cs last
+    (ending : Opening) × IsRight former c × IsEnding c.segment.rules c.segment.opening (reverse c.segment.entries) ending × AreRight (Some (c.name, ending)) cs last
 
 -- How many lines, and how many entries, segments have.
 abbrev pub lines_in : List Counted → ℕ
 lines_in cs = sum_by (λ c. length (lines_of c)) cs
 
 abbrev pub entries_in : List Counted → ℕ
-entries_in cs = sum_by (λ c. length c.entries) cs
+entries_in cs = sum_by (λ c. length c.segment.entries) cs
 
 -- Segments are right up to one of them, and this line of the text, from 1, is the first one of it that is wrong.
 pub record IsFirstBadLine (cs : List Counted) (line : ℕ) (kept ruled : Ruling) : Type 0 where

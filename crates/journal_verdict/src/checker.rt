@@ -8,7 +8,6 @@ use std::alloc::Global;
 
 impl Check {
     ghost use Rattle.std.specs.Prelude.{◌≡◌, IfOk};
-    ghost use Rattle.journal_text.specs.Kept.{IsKeptSegment};
     ghost use Rattle.journal_verdict.specs.Checks.{HasCountRoom, Leads, at_first, verdict_of};
 
     fn new() -> Check
@@ -23,8 +22,7 @@ impl Check {
 
     // After a further segment.
     fn take(self, alloc: Global, segment: Counted) -> Result<Check, NoMemory>
-        requires kept { IsKeptSegment segment }
-        requires room { HasCountRoom self segment }
+        requires { HasCountRoom self segment }
         ensures { IfOk result (Leads self segment) }
     {
         match self {
@@ -64,7 +62,6 @@ pub(crate) struct Checker {
 
 impl Checker {
     ghost use Rattle.std.specs.Prelude.{◌≡◌, ◌≤◌, ◌+◌, ◌∷◌, [], List, length, IfErr, IfOk};
-    ghost use Rattle.journal_text.specs.Kept.{IsSound};
     ghost use Rattle.journal_text.specs.Reading.{at_start};
     ghost use Rattle.journal_text.specs.declared.counted.Counted.{Counted};
     ghost use Rattle.journal_verdict.specs.Checkers.{Advances, CheckEndsBy, CheckGoesOn, HasTaken, RefusesLine, may_end};
@@ -93,7 +90,6 @@ impl Checker {
         alloc: Global,
         number: u32,
     ) -> Result<Checker, NoMemory>
-        requires sound { IsSound reader }
         requires few { length reader.done ≤ 1 }
         requires room { (c : Counted) → reader.done ≡ c ∷ [] → HasCountRoom check c }
         ensures { IfOk result (CheckGoesOn reader check some number) }

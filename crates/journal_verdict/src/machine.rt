@@ -1,7 +1,5 @@
 //! A machine over the lines of a journal, which takes one after the other.
 ghost use Rattle.std.specs.Prelude.{◌≡◌, ◌+◌, ◌<◌, ◌^◌, IfErr, IfOk, OnOk, true, false, None, Some};
-ghost use Rattle.lb_model.specs.Validity.{IsOpening};
-ghost use Rattle.journal_text.specs.Kept.{IsSound};
 ghost use Rattle.journal_text.specs.Reading.{TakesText, held};
 ghost use Rattle.journal_verdict.specs.Lines.{RefusesLineAt, RunState, Stand, StandTakes, at_first, is_among};
 ghost use Rattle.journal_verdict.specs.Machines.{AddsHead, KnowsAs};
@@ -40,9 +38,7 @@ fn bad_line(alloc: Global, number: u64, text: &[u8], ruled: Bytes) -> Result<Fol
 
 /// Takes a line's text. False: it can't be read there.
 fn take_text(alloc: Global, reader: &mut Reader, text: &[u8]) -> Result<bool, NoMemory>
-    requires few { held reader.old.place < 2 ^ 32 }
-    requires sound { IsSound reader.old }
-    ensures sound { IfOk result (λ taken. taken ≡ true → IsSound reader.new) }
+    requires { held reader.old.place < 2 ^ 32 }
     ensures taken { IfOk result (λ taken. taken ≡ true → TakesText reader.old text.now (Some reader.new)) }
     ensures unread { IfOk result (λ taken. taken ≡ false → TakesText reader.old text.now None) }
 {
@@ -58,7 +54,6 @@ fn take_text(alloc: Global, reader: &mut Reader, text: &[u8]) -> Result<bool, No
 
 /// After a line of an opening, or one between segments.
 fn after_head(alloc: Global, machine: &mut Machine) -> Result<(), NoMemory>
-    requires sound { IsSound machine.old.reader }
     requires few { machine.old.taken + 1 < 2 ^ 32 }
     requires shut { machine.old.among ≡ false }
     ensures { (s : Stand) → OnOk result (AddsHead s machine.old.reader (machine.old.taken + 1) machine.old.run machine.new) }
@@ -66,10 +61,10 @@ fn after_head(alloc: Global, machine: &mut Machine) -> Result<(), NoMemory>
     machine.taken += 1;
     let (reader, opened) = mem::replace(&mut machine.reader, Reader::new(alloc)).take_opening();
     machine.reader = reader;
-    let Some((name, opening)) = opened else {
+    let Some((name, segment)) = opened else {
         return Ok(());
     };
-    machine.run = Some(Run::begin(name, opening, machine.reader.rules())?);
+    machine.run = Some(Run::begin(name, segment)?);
     machine.taken = 0;
     machine.among = true;
     Ok(())

@@ -1,15 +1,13 @@
 //! The last opening that is whole, and the entries after it.
 ghost use Rattle.std.specs.Prelude.{◌≡◌, [], IfErr, IfOk, true, false};
 ghost use Rattle.lb_book.specs.Journal.{IsSound};
-ghost use Rattle.lb_model.specs.Segments.{AreRules};
-ghost use Rattle.lb_model.specs.Validity.{IsOpening};
 
 use crate::error::FollowError;
 use crate::judging::judge;
 use crate::ruling::Ruling;
 use jk_io::{Bytes, NoMemory};
 use lb_book::Book;
-use lb_model::{Entry, Method, Opening};
+use lb_model::{Entry, Method, Segment};
 
 /// A balancer whose journal is followed.
 #[derive(Drop)]
@@ -28,20 +26,18 @@ impl Run {
     ghost use Rattle.lb_book.specs.Journal.{past_of};
     ghost use Rattle.lb_model.specs.Journal.{moment_of};
     ghost use Rattle.lb_model.specs.Legal.{IsNext};
-    ghost use Rattle.lb_model.specs.Segments.{AreRules, IsKeptEntry};
-    ghost use Rattle.lb_model.specs.Validity.{IsOpening};
+    ghost use Rattle.lb_model.specs.Segments.{IsKeptEntry};
     ghost use Rattle.journal_verdict.specs.Lines.{RunState};
     ghost use Rattle.journal_verdict.specs.Machines.{DiffersBy, EndsRun, IsRunSoFar, TakesOn};
 
-    /// After an opening of these rules.
-    pub(crate) fn begin(name: Bytes, opening: Opening, rules: u8) -> Result<Run, NoMemory>
-        requires valid { IsOpening opening }
-        requires versions { AreRules rules }
+    /// After the opening of a segment.
+    pub(crate) fn begin(name: Bytes, segment: Segment) -> Result<Run, NoMemory>
         ensures named { IfOk result (λ run. run.name ≡ name) }
-        ensures kind { IfOk result (λ run. (run.direct ≡ opening.config.direct) × (run.method ≡ opening.config.method)) }
-        ensures book { IfOk result (λ run. run.book ≡ record { rules = rules; opening = opening; entries = []; added = 0 }) }
-        ensures at { IfOk result (λ run. run.at ≡ opening.at) }
+        ensures kind { IfOk result (λ run. (run.direct ≡ segment.opening.config.direct) × (run.method ≡ segment.opening.config.method)) }
+        ensures book { IfOk result (λ run. run.book ≡ record { rules = segment.rules; opening = segment.opening; entries = []; added = 0 }) }
+        ensures at { IfOk result (λ run. run.at ≡ segment.opening.at) }
     {
+        let Segment { rules, opening, .. } = segment;
         let direct = opening.config.direct;
         let method = opening.config.method;
         let at = opening.at;

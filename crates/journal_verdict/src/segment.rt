@@ -4,7 +4,6 @@ ghost use Rattle.lb_book.specs.Ending.{IsCut};
 ghost use Rattle.lb_book.specs.Journal.{IsSound};
 ghost use Rattle.lb_model.specs.Segments.{AreKeptEntries, AreRules};
 ghost use Rattle.lb_model.specs.Validity.{IsOpening};
-ghost use Rattle.journal_text.specs.Kept.{IsKeptSegment};
 ghost use Rattle.journal_text.specs.Written.{lines_of};
 ghost use Rattle.journal_verdict.specs.Checks.{After, EndsSegment, EndsAt, IsFormer, IsOtherCount, JudgesOpening, Leaves, LeavesAs};
 ghost use Rattle.journal_verdict.specs.Verdicts.{lines_before};
@@ -16,7 +15,7 @@ use crate::ruling::{Ruling, Verdict, Wrong};
 use jk_io::{Bytes, NoMemory};
 use journal_text::Counted;
 use lb_book::Book;
-use lb_model::{Entry, EntryList, Opening, Segment};
+use lb_model::{Entry, Opening, Segment};
 use std::alloc::Global;
 
 // The verdict on a line at this place after `lines` others, from 0.
@@ -36,18 +35,17 @@ fn bad(lines: u32, place: usize, wrong: Wrong) -> Verdict
 fn judge_opening(
     alloc: Global,
     former: Option<(Bytes, Opening)>,
-    segment: &Counted,
+    counted: &Counted,
 ) -> Result<Option<Wrong>, NoMemory>
-    requires kept { IsKeptSegment segment.now }
-    requires former { IsFormer former }
-    ensures { IfOk result (JudgesOpening former segment.now) }
+    requires { IsFormer former }
+    ensures { IfOk result (JudgesOpening former counted.now) }
 {
     match former {
         None => Ok(None),
         Some((name, ending)) => first_difference(
             alloc,
-            segment.name.as_slice(),
-            &segment.opening,
+            counted.name.as_slice(),
+            &counted.segment.opening,
             name.as_slice(),
             &ending,
         ),
@@ -130,59 +128,51 @@ fn end_of(
     replay(&mut Book::resume(opening, rules)?, at, entries, count)
 }
 
-// As `end_of`, of entries that nobody reads after that.
-fn end_of_all(
-    opening: Opening,
-    rules: u8,
-    entries: EntryList,
-    count: u64,
-) -> Result<Result<Opening, Wrong>, NoMemory>
-    requires valid { IsOpening opening }
-    requires versions { AreRules rules }
-    requires kept { AreKeptEntries rules entries }
-    ensures { IfOk result (Leaves rules opening entries count) }
+// As `end_of`, of a segment that nobody reads after that.
+fn end_of_all(segment: Segment, count: u64) -> Result<Result<Opening, Wrong>, NoMemory>
+    ensures { IfOk result (Leaves segment.rules segment.opening segment.entries count) }
 {
+    let Segment {
+        rules,
+        opening,
+        entries,
+    } = segment;
     end_of(opening, rules, entries.as_slice(), count)
 }
 
 // Under which name and where a segment ends, if its entries and their count are right.
-fn leave(segment: Counted) -> Result<Result<(Bytes, Opening), Wrong>, NoMemory>
-    requires kept { IsKeptSegment segment }
-    ensures { IfOk result (LeavesAs segment) }
+fn leave(counted: Counted) -> Result<Result<(Bytes, Opening), Wrong>, NoMemory>
+    ensures { IfOk result (LeavesAs counted) }
 {
     let Counted {
         name,
-        rules,
-        opening,
-        entries,
+        segment,
         count,
-    } = segment;
-    match end_of_all(opening, rules, entries, count)? {
+    } = counted;
+    match end_of_all(segment, count)? {
         Err(wrong) => Ok(Err(wrong)),
         Ok(ending) => Ok(Ok((name, ending))),
     }
 }
 
 // How many lines a segment has before its entries.
-fn lines_before(segment: &Counted) -> usize
-    requires kept { IsKeptSegment segment.now }
-    requires few { length (lines_of segment.now) < 2 ^ 32 }
-    ensures { result ≡ lines_before segment.now }
+fn lines_before(counted: &Counted) -> usize
+    requires { length (lines_of counted.now) < 2 ^ 32 }
+    ensures { result ≡ lines_before counted.now }
 {
-    let members = segment.opening.config.members.len();
-    members + segment.opening.out.len() + 3
+    let members = counted.segment.opening.config.members.len();
+    members + counted.segment.opening.out.len() + 3
 }
 
 // What comes after a segment whose opening is right; `lines` and `entries` count what stands before it.
-fn take_entries(lines: u32, entries: u64, segment: Counted) -> Result<Check, NoMemory>
-    requires kept { IsKeptSegment segment }
-    requires few { lines + length (lines_of segment) < 2 ^ 32 }
-    requires entries { entries + length segment.entries < 2 ^ 64 }
-    ensures { IfOk result (EndsSegment lines entries segment) }
+fn take_entries(lines: u32, entries: u64, counted: Counted) -> Result<Check, NoMemory>
+    requires few { lines + length (lines_of counted) < 2 ^ 32 }
+    requires entries { entries + length counted.segment.entries < 2 ^ 64 }
+    ensures { IfOk result (EndsSegment lines entries counted) }
 {
-    let before = lines_before(&segment);
-    let number = segment.entries.len();
-    match leave(segment)? {
+    let before = lines_before(&counted);
+    let number = counted.segment.entries.len();
+    match leave(counted)? {
         Err(wrong) => Ok(Check::Bad(bad(lines, before, wrong))),
         Ok(ended) => Ok(Check::Good(Reached {
             former: Some(ended),
@@ -196,21 +186,20 @@ fn take_entries(lines: u32, entries: u64, segment: Counted) -> Result<Check, NoM
 pub(crate) fn take_segment(
     alloc: Global,
     reached: Reached,
-    segment: Counted,
+    counted: Counted,
 ) -> Result<Check, NoMemory>
-    requires kept { IsKeptSegment segment }
     requires former { IsFormer reached.former }
-    requires few { reached.lines + length (lines_of segment) < 2 ^ 32 }
-    requires entries { reached.entries + length segment.entries < 2 ^ 64 }
-    ensures { IfOk result (After reached segment) }
+    requires few { reached.lines + length (lines_of counted) < 2 ^ 32 }
+    requires entries { reached.entries + length counted.segment.entries < 2 ^ 64 }
+    ensures { IfOk result (After reached counted) }
 {
     let Reached {
         former,
         lines,
         entries,
     } = reached;
-    match judge_opening(alloc, former, &segment)? {
+    match judge_opening(alloc, former, &counted)? {
         Some(wrong) => Ok(Check::Bad(bad(lines, 1, wrong))),
-        None => take_entries(lines, entries, segment),
+        None => take_entries(lines, entries, counted),
     }
 }

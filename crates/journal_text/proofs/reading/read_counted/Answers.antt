@@ -1,4 +1,4 @@
-use Rattle.std.proofs.Common.{◌≡◌, ℕ, List, ◌∷◌, None, Ok, Err, length, refl, sym, ap, subst, ◌∙◌, ◌==◌, arith}
+use Rattle.std.proofs.Common.{◌≡◌, ℕ, List, ◌∷◌, None, Ok, Err, length, sym, ap, subst, ◌∙◌, ◌==◌, arith}
 use Rattle.std.specs.Prelude.{Result, IsErrAnd}
 use Rattle.std.proofs.lemmas.List.Splits.{length-slice_split}
 use Rattle.play_script.specs.Parts.{parts_of}
@@ -23,21 +23,20 @@ tells_error (Err e) only Says is told = subst (λ (x : TextError). TellsOutcome 
 pub returns-in-None : goal.returns-in-None
 returns-in-None c =
     let none : length (parts_of 10 c.args.text.now) ≡ 0 = ap length (sym c.of-lines.ensures.value ∙ c.in-None.ensures.0) in
-    record { value = absurd (omega (arith, none, length-slice_split (λ b. b == 10) c.args.text.now)); sound = tt }
+    absurd (omega (arith, none, length-slice_split (λ b. b == 10) c.args.text.now))
 
 pub lines-init : goal.lines-init
 lines-init c =
     let parts : parts_of 10 c.args.text.now ≡ c.in-Some.first.now ∷ c.next.new.self = sym c.of-lines.ensures.value ∙ c.in-Some.ensures in
     record {
-      sound = c.new-reader.ensures.sound;
       few = omega (arith, c.of-lines.ensures.few, ap length c.in-Some.ensures, c.requires);
-      room = rw c.new-reader.ensures.value (omega arith);
+      room = rw c.new-reader.ensures (omega arith);
       reads = λ o h. subst (λ ps. ReadsLines at_start 1 ps o) (sym parts)
-          (subst (λ (r : Reader). ReadsLines r 1 (c.in-Some.first.now ∷ c.next.new.self) o) c.new-reader.ensures.value h);
+          (subst (λ (r : Reader). ReadsLines r 1 (c.in-Some.first.now ∷ c.next.new.self) o) c.new-reader.ensures h);
     }
 
-pub returns-in_err-reader-clause-value : goal.returns-in_err-reader-clause-value
-returns-in_err-reader-clause-value c =
+pub returns-in_err-reader : goal.returns-in_err-reader
+returns-in_err-reader c =
     tells_error c.from_residual.result c.in_err-reader.field-0.0 _ c.from_residual.ensures.1
     (refused_tells c.lines.reader c.lines.number c.lines.line.now c.in-Some-next.next.now c.next-in-lines.new.self c.in_err-reader.field-0.0 c.args.text.now
     c.in_err-reader.ensures.err

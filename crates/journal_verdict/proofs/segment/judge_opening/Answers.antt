@@ -4,5 +4,5 @@ use Rattle.journal_verdict.proofs.segment.judge_opening.Goals as goal
 pub returns-in-Some : goal.returns-in-Some
 returns-in-Some c =
     rw c.in-Some.is
-    (judges_opening c.as_slice.result.now c.as_slice-in-Some.result.now c.in-Some.name c.in-Some.ending c.args.segment.now c.first_difference.result
+    (judges_opening c.as_slice.result.now c.as_slice-in-Some.result.now c.in-Some.name c.in-Some.ending c.args.counted.now c.first_difference.result
     c.as_slice.ensures c.as_slice-in-Some.ensures c.first_difference.ensures.same c.first_difference.ensures.wrong)

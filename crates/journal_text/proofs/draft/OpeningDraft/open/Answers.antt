@@ -2,8 +2,7 @@ use Rattle.std.proofs.Common.{refl, subst, IsTrue, arith}
 use Rattle.lb_model.specs.Validity.{IsOpening}
 use Rattle.lb_model.specs.declared.opening.Opening.{Opening}
 use Rattle.journal_text.specs.Openings.{IsOpened}
-use Rattle.journal_text.proofs.OpeningFacts.{refused_none}
-use Rattle.journal_text.proofs.ReadingLaws.{same_opening}
+use Rattle.journal_text.proofs.OpeningFacts.{refused_none, same_opening}
 use Rattle.journal_text.proofs.draft.OpeningDraft.open.Goals as goal
 
 pub returns-in-Err : goal.returns-in-Err

@@ -4,16 +4,10 @@ use Rattle.journal_verdict.specs.Checkers.{RefusesLine}
 use Rattle.journal_verdict.proofs.CheckerFacts.{advances, ended_few, has_room, held_few}
 use Rattle.journal_verdict.proofs.checker.Checker.take.Goals as goal
 
-pub take_line-requires-clause-few : goal.take_line-requires-clause-few
-take_line-requires-clause-few c = held_few c.args.self c.requires.taken.0 c.requires.taken.1 c.requires.few
-
-pub take_line-requires-clause-sound : goal.take_line-requires-clause-sound
-take_line-requires-clause-sound c = c.requires.taken.1.sound
+pub take_line-requires : goal.take_line-requires
+take_line-requires c = held_few c.args.self c.requires.taken.0 c.requires.taken.1 c.requires.few
 
 -- a line ends at most one segment, and there is room for the numbers of its lines and entries
-pub go_on-requires-clause-sound : goal.go_on-requires-clause-sound
-go_on-requires-clause-sound c = c.in-Ok.ensures.sound
-
 pub go_on-requires-clause-few : goal.go_on-requires-clause-few
 go_on-requires-clause-few c =
     ended_few c.args.self.reader c.in-Ok.reader c.args.text.now c.requires.taken.1.empty c.in-Ok.ensures.takes
