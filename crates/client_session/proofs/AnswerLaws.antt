@@ -1,5 +1,5 @@
 -- Answers to a request: of its status worker, of an end that came before its worker, and 404 where it is mounted nowhere.
-use Rattle.std.proofs.Common.{◌≡◌, ◌<◌, ◌≤◌, ℕ, Bool, List, get_or, [], ◌∷◌, Option, IsSome, None, Some, Ok, Err, refl, sym, subst, inl, inr, ap, ◌∙◌, length, arith}
+use Rattle.std.proofs.Common.{◌≡◌, ◌<◌, ℕ, Bool, List, get_or, [], ◌∷◌, Option, IsSome, None, Some, Ok, Err, refl, sym, subst, inl, inr, ap, ◌∙◌, length}
 use Rattle.std.proofs.lemmas.Option.{slice_get_read}
 use Rattle.jk_io.specs.Moments.{Moment}
 use Rattle.lb_model.specs.declared.served.Asked.{Asked}

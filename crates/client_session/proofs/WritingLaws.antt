@@ -1,5 +1,5 @@
 -- Writing to the client, whole or broken off.
-use Rattle.std.proofs.Common.{◌≡◌, ◌≤◌, ℕ, Bool, List, Option, None, Some, IfSome, IsSome, Result, Ok, Err, arith, true, [], ◌∷◌, codes, sym, subst, inr, if◌then◌else◌}
+use Rattle.std.proofs.Common.{◌≡◌, ◌≤◌, ℕ, Bool, List, Option, None, Some, IfSome, IsSome, Result, Ok, Err, true, [], ◌∷◌, codes, sym, subst, inr, if◌then◌else◌}
 use Rattle.jk_io.specs.Moments.{Moment}
 use Rattle.jk_io.specs.declared.failures.IoError.{IoError}
 use Rattle.jk_io.specs.declared.failures.IoError.TheVariants as io
@@ -23,7 +23,6 @@ use Rattle.client_session.specs.Writing.{WritesOwn, WritesPart, WritesRefusal, s
 use Rattle.client_session.specs.declared.ending.SessionStop.{SessionStop}
 use Rattle.client_session.specs.declared.ending.SessionStop.TheVariants as stop
 use Rattle.client_session.specs.declared.ending.Why.{Why}
-use Rattle.client_session.specs.declared.ending.Why.TheVariants as why
 
 -- what a delivery answers, as a part that was written or broke off
 pub part_written : (bytes : List ℕ) (s n : Moment) (value : Unit {0}) → Delivers {T = Unit {0}} bytes s n (Ok value) → Puts s n bytes
