@@ -14,7 +14,7 @@ use Rattle.lb_model.specs.declared.view.View.{View}
 use Rattle.lb_book.specs.Desks.{Chooses, Commands, DeskState, Gains, IsOwn, KeepsDesk, LeaseNote, MeetsStray, RefusesChoice, RisesByOne, Shows, first_stray, TakesBack}
 use Rattle.lb_book.specs.declared.desk.Choice.TheVariants as choice
 use Rattle.lb_book.specs.declared.receipt.Receipt.{Receipt}
-use Rattle.check_lines.specs.Once.{EndsCall, GainsAsMany, Returns}
+use Rattle.check_lines.specs.Once.{EndsCall, GainsAsMany, ReturnsOnce}
 use Rattle.check_lines.specs.declared.callers.Once.TheVariants as once
 
 pub gains_as_many : (old new : DeskState) (lb session at : ℕ) (gained : List Receipt) → Gains old new lb session at gained → GainsAsMany old new
@@ -52,9 +52,9 @@ last_own P (x ∷ rs) r all = last_own P rs r (All-tail P x (rs ++ r ∷ []) all
 
 pub ends_returned : {T : Type 0} (note : T → LeaseNote) (old mid new : DeskState) (lb session at : ℕ) (ask : Ask) (outcome : Outcome) (m : ℕ) (lease : T)
     → Chooses note old mid lb session at ask (choice.Chosen m lease) → TakesBack mid new session at (note lease) outcome
-    → Returns old new lb ask outcome m × (m < slice_index old.sizes lb) × (is_in ask.tried m ≡ false)
+    → ReturnsOnce old new lb ask outcome m × (m < slice_index old.sizes lb) × (is_in ask.tried m ≡ false)
 ends_returned note old mid new lb session at ask outcome m lease chose back =
-    let returns : Returns old new lb ask outcome m = record {
+    let returns : ReturnsOnce old new lb ask outcome m = record {
       before = chose.gains.due;
       chosen = chose.last;
       back = back.last;

@@ -19,7 +19,7 @@ abbrev pub GainsAsMany : DeskState → DeskState → Type 0
 GainsAsMany old new = new.added + length old.receipts ≡ old.added + length new.receipts
 
 -- The last two entries are the choice of this member and the Return of its ticket with this outcome.
-pub record Returns (old new : DeskState) (lb : ℕ) (ask : Ask) (outcome : Outcome) (m : ℕ) : Type 0 where
+pub record ReturnsOnce (old new : DeskState) (lb : ℕ) (ask : Ask) (outcome : Outcome) (m : ℕ) : Type 0 where
   pub before : List Receipt
   pub chosen : Receipt
   pub back : Receipt
@@ -31,7 +31,7 @@ pub record Returns (old new : DeskState) (lb : ℕ) (ask : Ask) (outcome : Outco
   pub done : back.entry.answer ≡ answer.Done
 
 -- The last entry is an ask that was answered without a member.
-pub record IsUnchosen (old new : DeskState) (ask : Ask) : Type 0 where
+pub record HasNoChoice (old new : DeskState) (ask : Ask) : Type 0 where
   pub before : List Receipt
   pub last : Receipt
   pub gained : new.receipts ≡ old.receipts ++ before ++ last ∷ []
@@ -40,9 +40,9 @@ pub record IsUnchosen (old new : DeskState) (ask : Ask) : Type 0 where
 
 abbrev pub EndsCall : {M : Type 0} → (old new : DeskState) → (lb : ℕ) → Ask → Outcome → Once M → Type 0
 EndsCall old new lb ask outcome (once.Returned m) =
-    Returns old new lb ask outcome m × (m < slice_index old.sizes lb) × (is_in ask.tried m ≡ false)
+    ReturnsOnce old new lb ask outcome m × (m < slice_index old.sizes lb) × (is_in ask.tried m ≡ false)
 EndsCall old new lb ask outcome once.Unchosen =
-    IsUnchosen old new ask × (new.strays ≡ old.strays) × (new.met ≡ old.met) × (new.fulls ≡ old.fulls)
+    HasNoChoice old new ask × (new.strays ≡ old.strays) × (new.met ≡ old.met) × (new.fulls ≡ old.fulls)
 EndsCall old new lb ask outcome (once.Refused error) =
     (new.strays ≡ old.strays) × (new.met ≡ old.met) × (error ≡ room.NoMemory → new.fulls ≡ old.fulls)
 EndsCall old new lb ask outcome (once.Stray stray) = RisesByOne old.strays new.strays × (new.met ≡ first_stray old.met stray)

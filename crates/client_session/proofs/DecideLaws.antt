@@ -8,7 +8,7 @@ use Rattle.lb_model.specs.declared.served.Served.{Served}
 use Rattle.http_front.specs.Answer.{UsesEnd}
 use Rattle.http_front.specs.Cut.{Cuts}
 use Rattle.http_front.specs.Refusal.{status_of}
-use Rattle.http_front.specs.Request.{AreEmptyLines, EndsWithin, IsHeadOf, NoHead, Refuses}
+use Rattle.http_front.specs.Request.{AreEmptyLines, EndsInHead, IsHeadOf, NoHead, Refuses}
 use Rattle.http_front.specs.declared.answers.Form.{Form}
 use Rattle.http_front.specs.declared.head.Head.{Head}
 use Rattle.http_front.proofs.AnswerLemmas.{empty-head, empty-refused, form-one, head-one, head-refused, short-head, short-refused}
@@ -109,11 +109,11 @@ refused_bytes s read form bytes reads told =
     let there = front_of_told read.inbox read.client.incoming bytes (reads.unused ∙ told) in
     subst (λ (l : List ℕ). Refuses l form) (sym there.2) (refuses_more read.inbox there.0 form reads.refused)
 
-pub cut_bytes : (s n : ClientStanding) (bytes : List ℕ) → ReadsCut s n → unread_at s ≡ Some bytes → EndsWithin bytes
+pub cut_bytes : (s n : ClientStanding) (bytes : List ℕ) → ReadsCut s n → unread_at s ≡ Some bytes → EndsInHead bytes
 cut_bytes s n bytes reads told =
     let there = front_of_told n.inbox n.client.incoming bytes (reads.unused ∙ told) in
     let none : there.0 ≡ [] = rw there.1 at reads.over in
-    subst EndsWithin (sym (there.2 ∙ ap (λ (l : List ℕ). n.inbox ++ l) none ∙ append-nil n.inbox)) reads.within
+    subst EndsInHead (sym (there.2 ∙ ap (λ (l : List ℕ). n.inbox ++ l) none ∙ append-nil n.inbox)) reads.within
 
 pub end_bytes : (before now : Option (List ℕ)) (bytes : List ℕ) → UsesEnd before now → before ≡ Some bytes → AreEmptyLines bytes
 end_bytes before now bytes uses told =
@@ -379,7 +379,7 @@ over_by v number s n end bytes told (inr (inr (inr h))) empty =
     absurd (empty-head bytes there.0 there.1 h.head there.2 there.3 empty)
 
 cut_by : (v : Visit) (number : ℕ) (s n : ClientStanding) (end : SessionEnd) (bytes : List ℕ) → unread_at s ≡ Some bytes → IsAtFront v number s n end
-    → EndsWithin bytes → end ≡ end_of stop.Truncated number
+    → EndsInHead bytes → end ≡ end_of stop.Truncated number
 cut_by v number s n end bytes told (inl ended) short = absurd (short.begun (end_bytes _ _ bytes ended.1 told).empty)
 cut_by v number s n end bytes told (inr (inl cut)) short = cut.0
 cut_by v number s n end bytes told (inr (inr (inl (read, form, reads, is)))) short =

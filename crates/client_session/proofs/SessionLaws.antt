@@ -9,7 +9,7 @@ use Rattle.lb_model.specs.declared.served.Served.{Served}
 use Rattle.httpdate.specs.declared.date.HttpDate.{HttpDate}
 use Rattle.http_front.specs.Answer.{IfRefused, IsCalmHead}
 use Rattle.http_front.specs.Refusal.{status_of}
-use Rattle.http_front.specs.Request.{EndsWithin, IsDecided, Refuses}
+use Rattle.http_front.specs.Request.{EndsInHead, IsDecided, Refuses}
 use Rattle.http_front.specs.declared.answers.Form.{Form}
 use Rattle.http_front.specs.declared.answers.HeadError.{HeadError}
 use Rattle.http_front.specs.declared.answers.HeadError.TheVariants as error
@@ -109,7 +109,7 @@ pub record ReadsNoHead (s read : ClientStanding) (e : HeadError) : Type 0 where
   pub unused : unread_at read ≡ unread_at s
   pub no_fewer : s.client.faults ≤ read.client.faults
   pub refused : IfRefused (Err e) (λ status form. (status ≡ status_of form) × Refuses read.inbox form)
-  pub truncated : IsErrOf {T = HeadGot} (Err e) error.Truncated → EndsWithin read.inbox × IsEmpty read.client.incoming
+  pub truncated : IsErrOf {T = HeadGot} (Err e) error.Truncated → EndsInHead read.inbox × IsEmpty read.client.incoming
   pub fault : IsErrOf {T = HeadGot} (Err e) error.Fault → Rose s.client.faults read.client.faults
   pub awaited : IsErrOf {T = HeadGot} (Err e) error.Fault → IsDecided read.inbox → ⊥
   pub steady : IsCalmHead {T = HeadGot} (Err e) → read.client.faults ≡ s.client.faults

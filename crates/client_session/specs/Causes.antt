@@ -3,7 +3,7 @@ use Rattle.std.specs.Prelude.{ℕ, ◌≡◌, ◌≢◌, ◌≤◌, ◌+◌, ◌
 use Rattle.jk_io.specs.Told.{Rose}
 use Rattle.lb_model.specs.declared.journal.Answer.TheVariants as answer
 use Rattle.http_front.specs.Refusal.{status_of}
-use Rattle.http_front.specs.Request.{AreEmptyLines, EndsWithin, IsHeadOf, Refuses}
+use Rattle.http_front.specs.Request.{AreEmptyLines, EndsInHead, IsHeadOf, Refuses}
 use Rattle.http_front.specs.declared.answers.Form.{Form}
 use Rattle.http_front.specs.declared.head.Head.{Head}
 use Rattle.http_front.specs.State.{most_of, taken_of}
@@ -48,7 +48,7 @@ Calmly stop.NoMemory P = Unit {0}
 -- is mounted nowhere by 404; and at one that a status worker refuses by that refusal.
 pub record DecidesEnd (v : Visit) (number : ℕ) (bytes : List ℕ) (end : SessionEnd) : Type 0 where
   pub over : AreEmptyLines bytes → Calmly end.stop (end ≡ end_of (stop.Closed why.ByClient) number)
-  pub cut : EndsWithin bytes → Calmly end.stop (end ≡ end_of stop.Truncated number)
+  pub cut : EndsInHead bytes → Calmly end.stop (end ≡ end_of stop.Truncated number)
   pub refused : (form : Form) → Refuses bytes form → Calmly end.stop (end ≡ end_of (stop.Closed (why.Own (status_of form))) number)
   pub unmounted : (used rest : List ℕ) (head : Head) → bytes ≡ used ++ rest → IsHeadOf used head → mounted_at v head ≡ None
       → Calmly end.stop (end ≡ end_of (stop.Closed (why.Own 404)) number)

@@ -9,7 +9,7 @@ use Rattle.lb_model.specs.declared.served.Asked.TheVariants as asked
 use Rattle.lb_model.specs.declared.served.Served.{Served}
 use Rattle.http_front.specs.Answer.{UsesEnd, UsesHead}
 use Rattle.http_front.specs.Refusal.{status_of}
-use Rattle.http_front.specs.Request.{EndsWithin, Refuses}
+use Rattle.http_front.specs.Request.{EndsInHead, Refuses}
 use Rattle.http_front.specs.declared.answers.Form.{Form}
 use Rattle.http_front.specs.declared.head.Head.{Head}
 use Rattle.http_front.specs.State.{failed_of}
@@ -50,7 +50,7 @@ pub record ReadsRefused (s n : ClientStanding) (form : Form) : Type 0 where
 
 -- The client's bytes end within a head.
 pub record ReadsCut (s n : ClientStanding) : Type 0 where
-  pub within : EndsWithin n.inbox
+  pub within : EndsInHead n.inbox
   pub over : IsEmpty n.client.incoming
   pub unused : unread_at n ≡ unread_at s
   pub on : IsReadOn s n

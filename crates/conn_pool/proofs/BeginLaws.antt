@@ -9,7 +9,7 @@ use Rattle.jk_io.specs.declared.failures.IoError.TheVariants as Io
 use Rattle.jk_io.specs.declared.reaching.Begun.{Begun}
 use Rattle.jk_io.specs.declared.reaching.Talk.{Talk}
 use Rattle.jk_io.specs.declared.reaching.TalkAsked.{TalkAsked}
-use Rattle.conn_pool.specs.Begins.{Opens, IsLinkOf, IsQuiet, TapeSight, talks_refused}
+use Rattle.conn_pool.specs.Begins.{Opens, IsLinkOf, TapeRests, TapeSight, talks_refused}
 use Rattle.conn_pool.specs.Reaches.{LentState, told_begun}
 
 some_if : {X : Type 0} (o : Option X) (P Q : X → Type 0) → IsSomeAnd o P → ((x : X) → P x → Q x) → IfSome o Q
@@ -116,7 +116,7 @@ pub dialled_facts : {D L : Type 0} (gives : D → L → D → Type 0) (faults : 
     (dial : D) (talks : Option (List Talk)) (count : ℕ) (dial' : D) (now : TapeSight) (lent : Option (LentState L)) (count' : ℕ) (result : Result Bool IoError)
     (answer : Result L IoError) (mid : Option (List Talk)) → mid ≡ talks → IfOk result (λ d. d ≡ true)
     → OnOk result (Opens (told_begun asked true) mid now lent)
-    → IfErr result (λ e. IsQuiet (talks_refused (failed_talk_of asked) mid e) now) → OnErr result (lent ≡ None)
+    → IfErr result (λ e. TapeRests (talks_refused (failed_talk_of asked) mid e) now) → OnErr result (lent ≡ None)
     → OnOk result (IsSomeAnd lent (λ l. answer ≡ Ok l.given)) → (IsErrOf result Io.Failed → IsErrOf answer Io.Failed)
     → IfOk answer (λ link. gives dial link dial') → (IsOk answer → faults dial' ≡ faults dial) → HasCause (faults dial) (faults dial') answer
     → HasCause count count' result → (IsOk result → count' ≡ count) → (IsErrOf result Io.NoMemory → count' ≡ count)

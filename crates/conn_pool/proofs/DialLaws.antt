@@ -6,7 +6,7 @@ use Rattle.jk_io.specs.declared.failures.IoError.{IoError}
 use Rattle.jk_io.specs.declared.failures.IoError.TheVariants as Io
 use Rattle.jk_io.specs.declared.reaching.Begun.{Begun}
 use Rattle.jk_io.specs.declared.reaching.Talk.{Talk}
-use Rattle.conn_pool.specs.Begins.{Opens, IsQuiet, TapeSight, talks_refused}
+use Rattle.conn_pool.specs.Begins.{Opens, TapeRests, TapeSight, talks_refused}
 use Rattle.conn_pool.specs.Reaches.{LentState}
 use Rattle.conn_pool.proofs.BeginLaws.{link_of}
 
@@ -15,7 +15,7 @@ pub record DialledBegin {L : Type 0} (Running Idle : Type 0) (b : Begun) (talk :
     (lent : Option (LentState L)) (answer : Result L IoError) (result : Result Bool IoError) : Type 0 where
   pub new_link : IfOk result (λ dialled. dialled ≡ true)
   pub began : OnOk result (Opens b talks now lent)
-  pub refused : IfErr result (λ e. IsQuiet (talks_refused talk talks e) now)
+  pub refused : IfErr result (λ e. TapeRests (talks_refused talk talks e) now)
   pub running : OnOk result Running
   pub idle : OnErr result ((lent ≡ None) × Idle)
   pub given : OnOk result (IsSomeAnd lent (λ l. answer ≡ Ok l.given))

@@ -32,7 +32,7 @@ pub record Opens {L : Type 0} (b : Begun) (talks : Option (List Talk)) (now : Ta
   pub talks_kept : now.talks ≡ talks
 
 -- nothing is told of a running talk, and the talks that ended are these
-pub record IsQuiet (talks : Option (List Talk)) (now : TapeSight) : Type 0 where
+pub record TapeRests (talks : Option (List Talk)) (now : TapeSight) : Type 0 where
   pub empty : IsEmpty now.sent × IsEmpty now.received
   pub talks_kept : now.talks ≡ talks
 
@@ -43,4 +43,4 @@ talks_refused talk talks Io.NoMemory = talks
 
 -- where a begin was refused its tape is quiet, and this talk is noted if it failed
 abbrev pub IsRefusedBegin : {A : Type 0} → Talk → Option (List Talk) → Result A IoError → TapeSight → Type 0
-IsRefusedBegin talk talks r now = IfErr r (λ e. IsQuiet (talks_refused talk talks e) now)
+IsRefusedBegin talk talks r now = IfErr r (λ e. TapeRests (talks_refused talk talks e) now)

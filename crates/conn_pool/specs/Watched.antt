@@ -14,7 +14,7 @@ abbrev pub times_of : Watch → LookTimes
 times_of watch = record { every = watch.every; last = watch.last }
 
 -- If looks were due, they were now; else nothing changed.
-pub record LooksAt (before : Watch) (now : ℕ) (after : Watch) : Type 0 where
+pub record LooksWhenDue (before : Watch) (now : ℕ) (after : Watch) : Type 0 where
   pub due : AreLooksDue before now → after ≡ record before { last = now }
   pub early : (AreLooksDue before now → ⊥) → after ≡ before
 
@@ -22,4 +22,4 @@ pub record LooksAt (before : Watch) (now : ℕ) (after : Watch) : Type 0 where
 abbrev pub RestsAt : Option Watch → ℕ → Option Watch → Type 0
 RestsAt None now after = after ≡ None
 RestsAt (Some before) now None = ⊥
-RestsAt (Some before) now (Some after) = LooksAt before now after
+RestsAt (Some before) now (Some after) = LooksWhenDue before now after

@@ -5,7 +5,7 @@ ghost use Rattle.conn_pool.specs.Idle.{counts};
 ghost use Rattle.jk_io.specs.Moments.{moment};
 ghost use Rattle.conn_pool.specs.Looks.{ends_of};
 ghost use Rattle.conn_pool.specs.Reaches.{HearsReach};
-ghost use Rattle.conn_pool.specs.Watched.{LooksAt, RestsAt};
+ghost use Rattle.conn_pool.specs.Watched.{LooksWhenDue, RestsAt};
 
 use crate::watch::{Watch, watch_if_due};
 use crate::{Idle, PooledReach, Pools, Tape};
@@ -161,7 +161,7 @@ fn look<L: Link + Drop, R: Wait>(
 ) -> Result<(), NoMemory>
     requires every { 0 < watch.old.every }
     requires sizes { counts pools.now ≡ ends_of cfg.now.lbs }
-    ensures { LooksAt watch.old now watch.new }
+    ensures { LooksWhenDue watch.old now watch.new }
 {
     watch_if_due(alloc, pools, cfg, watch, now)?;
     Ok(())

@@ -56,7 +56,7 @@ use Rattle.ajp_container.specs.declared.ends.Stopped.TheVariants.{Closed}
 use Rattle.ajp_container.proofs.SentLaws.{owed-spelled}
 use Rattle.drill.specs.FirstExchange.{FirstExchange}
 use Rattle.drill.specs.FirstGet.{FirstGet, first_bytes, first_errand, first_head, first_reply, no_data}
-use Rattle.drill.specs.Meeting.{IsDoneWith, IsExchangeWith, IsRequest, forwarded, front_of, plan_on}
+use Rattle.drill.specs.Meeting.{IsDoneWith, IsExchangeWith, IsClientRequest, forwarded, front_of, plan_on}
 
 -- ---- the head
 
@@ -123,7 +123,7 @@ is_head = record {
   is = judged-is;
 }
 
-request : IsRequest first_head no_data
+request : IsClientRequest first_head no_data
 request = record { used = first_bytes; behind = []; read = is_head; brings = refl }
 
 -- ---- its Forward Request

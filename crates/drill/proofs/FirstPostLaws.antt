@@ -47,7 +47,7 @@ use Rattle.ajp_container.specs.declared.app_config.AppConfig.{AppConfig}
 use Rattle.ajp_container.specs.declared.ends.Stopped.TheVariants.{Closed}
 use Rattle.ajp_container.proofs.SentLaws.{owed-spelled}
 use Rattle.drill.specs.FirstPost.{FirstPost, hello, hello_data, post_bytes, post_errand, post_head, post_reply}
-use Rattle.drill.specs.Meeting.{IsDoneWith, IsRequest, forwarded, plan_on}
+use Rattle.drill.specs.Meeting.{IsDoneWith, IsClientRequest, forwarded, plan_on}
 use Rattle.drill.proofs.FirstGetLaws.{no-request, ping_bytes, pinged, pings_for, pong_bytes, short-pong}
 
 -- ---- the head
@@ -130,7 +130,7 @@ is_head = record {
   is = judged-is;
 }
 
-request : IsRequest post_head hello_data
+request : IsClientRequest post_head hello_data
 request = record { used = post_bytes; behind = hello; read = is_head; brings = refl }
 
 -- ---- its Forward Request and its first piece

@@ -7,7 +7,7 @@ use Rattle.lb_book.specs.Journal.{Journal}
 use Rattle.lb_model.specs.Journal.{members}
 use Rattle.lb_model.specs.declared.journal.Entry.{Entry}
 use Rattle.lb_model.specs.declared.opening.Opening.{Opening}
-use Rattle.lb_passes.specs.Closing.{AreAllPasses, IsClosed}
+use Rattle.lb_passes.specs.Closing.{AreAllPasses, CloseInOne}
 use Rattle.lb_passes.specs.PassDesks.{view_of}
 use Rattle.lb_passes.specs.Passes.{AreNewPasses, IsNewPass, origin_of}
 use Rattle.lb_passes.specs.Placed.{AreBack, AreEachBack, AreFrom, IsBack, origin_in, table_in_passes}
@@ -105,7 +105,7 @@ closed_there t u passes same all = subst (λ (x : TableId). AreAllPasses x passe
 
 -- The Book that they leave is one of a drill.
 pub closed_drill : (table : TableId) (from : Origin) (start b : Journal) (given : ℕ) (passes : List Pass) → IsStarted start → from ≡ origin_of start 0
-    → AreBack table from given passes → IsClosed passes b → IsOfDrill b
+    → AreBack table from given passes → CloseInOne passes b → IsOfDrill b
 closed_drill table from start b given passes started is are closed =
     let o : Origin = origin_of start 0 in
     let knows : (view_of closed.first.pass).origin ≡ o = (back_at table from given passes closed.first.place closed.first.pass are.each closed.first.at).origin ∙ is in

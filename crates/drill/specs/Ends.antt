@@ -8,7 +8,7 @@ use Rattle.lb_model.specs.declared.journal.Entry.{Entry}
 use Rattle.lb_book.specs.Journal.{IsSound, Journal, next_number}
 use Rattle.lb_book.specs.declared.receipt.Receipt.{Receipt}
 use Rattle.lb_closing.specs.Closings.{Differs, DiscordNote, kept_from, noted}
-use Rattle.lb_passes.specs.Closing.{IsClosed}
+use Rattle.lb_passes.specs.Closing.{CloseInOne}
 use Rattle.lb_passes.specs.Placed.{AreFrom}
 use Rattle.lb_passes.specs.declared.pass.Pass.{Pass}
 use Rattle.drill.specs.Counts.{CountsDrill}
@@ -60,7 +60,7 @@ pub record IsClosedByAll (threads : ℕ) (b : Journal) : Type 0 where
   pub passes : List Pass
   pub many : length passes ≡ threads
   pub numbers : AreFrom 0 (map (λ p. p.number) passes)
-  pub closed : IsClosed passes b
+  pub closed : CloseInOne passes b
 
 -- What the threads made: the bodies in the rows of their sessions had these bytes, and their desks got these receipts. Where
 -- the desks stood behind a lock, the receipts are the Book's entries; else the Book was closed with a pass of each thread.

@@ -37,7 +37,7 @@ use Rattle.ajp_container.specs.declared.app_config.AppConfig.{AppConfig}
 use Rattle.ajp_container.specs.declared.ends.ContainerEnd.{ContainerEnd}
 
 -- A client's request: its head was read, and its own data are those that the bytes after the head bring.
-pub record IsRequest (head : Head) (own : Data) : Type 0 where
+pub record IsClientRequest (head : Head) (own : Data) : Type 0 where
   pub used : List ℕ
   pub behind : List ℕ
   pub read : IsHeadOf used head
@@ -54,7 +54,7 @@ front_of q = first_len q.head.plan q.balancer.ends
 -- A request before a talk: it fits the member's packet, and just the first piece of its data was taken. So it is before
 -- each talk of an exchange: a request that doesn't fit has none, and after a talk that took more there is no other.
 pub record IsReadyForTalk (q : Errand) (member : MemberConfig) (endpoint : Endpoint) (own : Data) (first : List ℕ) (b : BodyAt) : Type 0 where
-  pub request : IsRequest q.head own
+  pub request : IsClientRequest q.head own
   pub fits : FitsForward endpoint.packet (forwarded q member endpoint)
   pub first_is : first ≡ take (front_of q) own.bytes
   pub left : data_at b ≡ dropped (front_of q) (Some own)
@@ -122,7 +122,7 @@ pub record IsExchangeWith (app : AppConfig) (q : Errand) (member : ℕ) (own : D
   pub after : Moment
   pub end : ContainerEnd
   pub last : HasLastTalk q member s n (ends.Done told reuse moved)
-  pub request : IsRequest q.head own
+  pub request : IsClientRequest q.head own
   pub there : data_at s.body ≡ Some own
   pub size : last.endpoint.packet ≡ app.packet
   pub fits : FitsForward last.endpoint.packet (forwarded q last.config last.endpoint)

@@ -11,7 +11,7 @@ use Rattle.http_front.specs.declared.head.Head.{Head}
 use Rattle.site_config.specs.declared.endpoint.Endpoint.{Endpoint}
 use Rattle.exchange.specs.Keeping.{KeepsMeans, KeepsSides, MayAsk, MayTalk}
 use Rattle.exchange.specs.Rounds.{IsDeskAfter}
-use Rattle.exchange.specs.Steps.{HandsBack}
+use Rattle.exchange.specs.Steps.{HandsLeaseBack}
 use Rattle.exchange.specs.declared.ending.Ran.{Ran}
 use Rattle.exchange.specs.declared.ending.RoundVerdict.{RoundVerdict}
 use Rattle.exchange.specs.declared.request.Request.{Request}
@@ -90,11 +90,11 @@ asks_again state of_reach of_client q s n may kept = record {
 -- ---- a lease that was spent
 
 pub spent_held : {T : Type 0} (note : T → LeaseNote) (s m n : DeskState) (lb session at back_at : ℕ) (ask : Ask) (member : ℕ) (lease : T) (endpoint : Endpoint) (head : Head) (ran : Ran)
-    (v : RoundVerdict) → Chooses note s m lb session at ask (choice.Chosen member lease) → HandsBack m n session back_at (note lease) endpoint head member ran v → n.held ≡ s.held
+    (v : RoundVerdict) → Chooses note s m lb session at ask (choice.Chosen member lease) → HandsLeaseBack m n session back_at (note lease) endpoint head member ran v → n.held ≡ s.held
 spent_held note s m n lb session at back_at ask member lease endpoint head ran v chose back = held_again _ _ _ _ _ chose.answered.4 (ap pair_of chose.answered.3) back.held
 
 pub spent_desk : {T : Type 0} (note : T → LeaseNote) (s m n : DeskState) (lb session at back_at : ℕ) (ask : Ask) (member : ℕ) (lease : T) (endpoint : Endpoint) (head : Head) (ran : Ran)
     (v : RoundVerdict) → KeepsDesk s m → Chooses note s m lb session at ask (choice.Chosen member lease) → KeepsDesk m n
-    → HandsBack m n session back_at (note lease) endpoint head member ran v → IsDeskAfter lb session s n
+    → HandsLeaseBack m n session back_at (note lease) endpoint head member ran v → IsDeskAfter lb session s n
 spent_desk note s m n lb session at back_at ask member lease endpoint head ran v kept chose still back =
     after_round note s m n lb session at back_at ask member lease _ back.stray kept chose still back.wides back.back

@@ -62,7 +62,7 @@ verdict_back None endpoint head member ran = verdict_for endpoint head member ra
 verdict_back (Some stray) endpoint head member ran = verdict.End (exchange_end.Stray stray.ticket stray.returned_at)
 
 -- The lease was handed back.
-pub record HandsBack (old new : DeskState) (session at : ℕ) (lease : LeaseNote) (endpoint : Endpoint) (head : Head) (member : ℕ) (ran : Ran) (v : RoundVerdict) : Type 0 where
+pub record HandsLeaseBack (old new : DeskState) (session at : ℕ) (lease : LeaseNote) (endpoint : Endpoint) (head : Head) (member : ℕ) (ran : Ran) (v : RoundVerdict) : Type 0 where
   pub stray : Option Stray
   pub back : IsBack old new session at lease (outcome_for endpoint ran) stray
   pub fulls : new.fulls ≡ old.fulls

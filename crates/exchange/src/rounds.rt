@@ -5,7 +5,7 @@ ghost use Rattle.exchange.specs.Requests.{ask_for, errand_of};
 ghost use Rattle.exchange.specs.Keeping.{KeepsMeans, MayAsk, TookFirst};
 ghost use Rattle.exchange.specs.Means.{scene_of};
 ghost use Rattle.exchange.specs.Ends.{outcome_for};
-ghost use Rattle.exchange.specs.Steps.{HandsBack, IsNoLease, IsStep};
+ghost use Rattle.exchange.specs.Steps.{HandsLeaseBack, IsNoLease, IsStep};
 ghost use Rattle.lb_model.specs.declared.journal.TheConstants.{MOST_BYTES};
 
 use crate::ending::{ExchangeEnd, Ran, RoundVerdict};
@@ -58,7 +58,7 @@ fn give_back<B: Desk>(
     requires caller { IfSome (B.state desk.old).caller (λ n. request.now.session ≡ n) }
     requires held { holds (B.state desk.old).held (pair_of (B.note lease)) ≡ true }
     requires bytes { (outcome_for to.now.endpoint.now ran).bytes ≤ MOST_BYTES }
-    ensures back { HandsBack (B.state desk.old) (B.state desk.new) request.now.session at (B.note lease)
+    ensures back { HandsLeaseBack (B.state desk.old) (B.state desk.new) request.now.session at (B.note lease)
         to.now.endpoint.now request.now.head.now to.now.member ran result }
     ensures kept { KeepsDesk (B.state desk.old) (B.state desk.new) }
 {

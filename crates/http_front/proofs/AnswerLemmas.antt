@@ -4,7 +4,7 @@ use Rattle.std.proofs.Math.Seq.{take-append-add}
 use Rattle.httparse.proofs.GrammarLemmas.{request_unique}
 use Rattle.httparse.specs.Grammar.{RequestHead}
 use Rattle.http_front.specs.Cut.{Cuts, head_len, header_lines}
-use Rattle.http_front.specs.Request.{IsHeadOf, Refuses, RefusesFront, Reads, NoHead, AreEmptyLines, EndsWithin, judged}
+use Rattle.http_front.specs.Request.{IsHeadOf, Refuses, RefusesFront, Reads, NoHead, AreEmptyLines, EndsInHead, judged}
 use Rattle.http_front.specs.declared.answers.Form.{Form}
 use Rattle.http_front.specs.declared.head.Head.{Head}
 use Rattle.http_front.proofs.CutLemmas.{cut-blank, cut-head, head_len-two}
@@ -104,9 +104,9 @@ pub empty-refused : (bytes : List ℕ) (form : Form) → Refuses bytes form → 
 empty-refused bytes form (inl a) empty = cut-empty bytes a.blank a.front a.rest a.cut empty
 empty-refused bytes form (inr a) empty = omega (arith, a.1.long, empty.short)
 
-pub short-head : (bytes used rest : List ℕ) (head : Head) → bytes ≡ used ++ rest → IsHeadOf used head → EndsWithin bytes → ⊥
+pub short-head : (bytes used rest : List ℕ) (head : Head) → bytes ≡ used ++ rest → IsHeadOf used head → EndsInHead bytes → ⊥
 short-head bytes used rest head whole is short = short.none is.blank is.front rest (cut-used bytes used rest is.blank is.front whole is.cut)
 
-pub short-refused : (bytes : List ℕ) (form : Form) → Refuses bytes form → EndsWithin bytes → ⊥
+pub short-refused : (bytes : List ℕ) (form : Form) → Refuses bytes form → EndsInHead bytes → ⊥
 short-refused bytes form (inl a) short = short.none a.blank a.front a.rest a.cut
 short-refused bytes form (inr a) short = omega (arith, a.1.long, short.short)

@@ -14,7 +14,7 @@ use Rattle.http_front.specs.Cut.{header_lines}
 use Rattle.http_front.specs.Fields.{HeaderLine}
 use Rattle.http_front.specs.Judged.{head_of}
 use Rattle.http_front.specs.Makes.{Makes, MakesOf, IsHeadFront}
-use Rattle.http_front.specs.Request.{Reads, Refuses, RefusesFront, AreEmptyLines, EndsWithin, IsDecided, judged}
+use Rattle.http_front.specs.Request.{Reads, Refuses, RefusesFront, AreEmptyLines, EndsInHead, IsDecided, judged}
 use Rattle.http_front.specs.declared.answers.Form.{Form}
 use Rattle.http_front.specs.declared.answers.HeadError.{HeadError}
 use Rattle.http_front.specs.declared.answers.HeadError.TheVariants.{Refused, Truncated, Fault, NoMemory}
@@ -74,7 +74,7 @@ refuses-head inbox slice blank len Fault whole few is makes = tt
 refuses-head inbox slice blank len NoMemory whole few is makes = tt
 
 -- the bytes end within a head
-pub ends-made : (bytes : List ℕ) (blank searched : ℕ) → IsPartOfHead bytes blank searched → length bytes < 16384 → (blank ≡ length bytes → ⊥) → EndsWithin bytes
+pub ends-made : (bytes : List ℕ) (blank searched : ℕ) → IsPartOfHead bytes blank searched → length bytes < 16384 → (blank ≡ length bytes → ⊥) → EndsInHead bytes
 ends-made bytes blank searched part short text = record {
   short = short;
   begun = λ full. text (sym part.empty ∙ full);

@@ -73,7 +73,7 @@ pub record AreEmptyLines (bytes : List ℕ) : Type 0 where
   pub empty : blank_len bytes ≡ length bytes
 
 -- fewer than 16,384 bytes, which end within a head
-pub record EndsWithin (bytes : List ℕ) : Type 0 where
+pub record EndsInHead (bytes : List ℕ) : Type 0 where
   pub short : length bytes < 16384
   pub begun : blank_len bytes ≢ length bytes
   pub none : NoHead bytes

@@ -2,7 +2,7 @@
 use Rattle.std.specs.Prelude.{ℕ, ◌≡◌, ◌+◌, ◌≤◌, ◌<◌, List, ◌++◌, length, take, drop, Some, None, Result, Ok, Err, ⊤}
 use Rattle.std.specs.Option.{option_map}
 use Rattle.http_front.specs.Cut.{Cuts, blank_len, head_len}
-use Rattle.http_front.specs.Request.{AreEmptyLines, EndsWithin, IsOverlong}
+use Rattle.http_front.specs.Request.{AreEmptyLines, EndsInHead, IsOverlong}
 use Rattle.http_front.specs.declared.cut.Search.{Search}
 use Rattle.http_front.specs.declared.cut.Search.TheVariants.{Ends, Open}
 use Rattle.http_front.specs.declared.reading.Look.{Look}
@@ -60,7 +60,7 @@ abbrev pub IsFoundHead : List ℕ → Result Found HeadError → Type 0
 IsFoundHead bytes (Ok (found.Head blank len)) = IsWholeHead bytes blank len
 IsFoundHead bytes (Ok found.End) = AreEmptyLines bytes
 IsFoundHead bytes (Err (error.Refused status form)) = (status ≡ 431) × (form ≡ TooBig) × IsOverlong bytes
-IsFoundHead bytes (Err error.Truncated) = EndsWithin bytes
+IsFoundHead bytes (Err error.Truncated) = EndsInHead bytes
 IsFoundHead bytes (Err error.Fault) = ⊤
 IsFoundHead bytes (Err error.NoMemory) = ⊤
 

@@ -2,7 +2,7 @@
 ghost use Rattle.std.specs.Prelude.{◌≡◌, ◌<◌, ◌+◌, ℕ, List, ◌++◌, length, Some};
 ghost use Rattle.http_front.specs.Cut.{head_len, header_lines};
 ghost use Rattle.http_front.specs.Lines.{AreFullLines, IsEmptyLine, ended};
-ghost use Rattle.http_front.specs.Request.{IsHeadOf, Refuses, AreEmptyLines, EndsWithin};
+ghost use Rattle.http_front.specs.Request.{IsHeadOf, Refuses, AreEmptyLines, EndsInHead};
 ghost use Rattle.http_front.specs.declared.answers.Form.{Form};
 ghost use Rattle.http_front.specs.declared.head.Head.{Head};
 
@@ -16,9 +16,9 @@ pub fn one_answer()
 
     ensures empty_head { (bytes used rest : List ℕ) (head : Head) → bytes ≡ used ++ rest → IsHeadOf used head → AreEmptyLines bytes → ⊥ }
     ensures empty_refused { (bytes : List ℕ) (form : Form) → Refuses bytes form → AreEmptyLines bytes → ⊥ }
-    ensures short_head { (bytes used rest : List ℕ) (head : Head) → bytes ≡ used ++ rest → IsHeadOf used head → EndsWithin bytes → ⊥ }
-    ensures short_refused { (bytes : List ℕ) (form : Form) → Refuses bytes form → EndsWithin bytes → ⊥ }
-    ensures short_empty { (bytes : List ℕ) → AreEmptyLines bytes → EndsWithin bytes → ⊥ }
+    ensures short_head { (bytes used rest : List ℕ) (head : Head) → bytes ≡ used ++ rest → IsHeadOf used head → EndsInHead bytes → ⊥ }
+    ensures short_refused { (bytes : List ℕ) (form : Form) → Refuses bytes form → EndsInHead bytes → ⊥ }
+    ensures short_empty { (bytes : List ℕ) → AreEmptyLines bytes → EndsInHead bytes → ⊥ }
 {}
 
 /// Lines that aren't empty, and an empty line after them, are the bytes of a head, whatever

@@ -4,7 +4,7 @@ ghost use Rattle.jk_io.specs.Told.{IsEmpty, Rose};
 ghost use Rattle.http_front.specs.Answer.{UsesHead, UsesEnd, IfHead, OnEnd, IfRefused, IsCalmHead};
 ghost use Rattle.http_front.specs.Reads.{ReadsClient};
 ghost use Rattle.http_front.specs.Refusal.{status_of};
-ghost use Rattle.http_front.specs.Request.{Refuses, EndsWithin, IsDecided};
+ghost use Rattle.http_front.specs.Request.{Refuses, EndsInHead, IsDecided};
 ghost use Rattle.http_front.specs.Search.{IsSearched, IsPartOfHead, IsLook, IsStop, IsFoundHead, HasEnded};
 ghost use Rattle.http_front.specs.Unread.{unread};
 
@@ -151,7 +151,7 @@ pub fn read_head<C: Link>(
 
     // After a refusal, a fault and want of memory nothing is used.
     ensures refused { IfRefused result (λ status form. (status ≡ status_of form) × Refuses inbox.new form) }
-    ensures truncated { IsErrOf result HeadError.Truncated → EndsWithin inbox.new × IsEmpty (C.incoming client.new) }
+    ensures truncated { IsErrOf result HeadError.Truncated → EndsInHead inbox.new × IsEmpty (C.incoming client.new) }
     ensures fault { IsErrOf result HeadError.Fault → Rose (C.faults client.old) (C.faults client.new) }
     ensures err { OnErr result (unread inbox.new (C.incoming client.new) ≡ unread inbox.old (C.incoming client.old)) }
 

@@ -23,7 +23,7 @@ use Rattle.jk_server.specs.RunTells.{logging}
 use Rattle.jk_server.specs.declared.runs.ends.Closing.{Closing}
 use Rattle.jk_server.specs.declared.part.WorkerEnd.{WorkerEnd}
 use Rattle.jk_server.specs.Ends.{end_of_container, end_of_run, returned}
-use Rattle.site_reports.specs.Sites.{IsFound}
+use Rattle.site_reports.specs.Sites.{AreFound}
 use Rattle.gear_parts.specs.Wants.{AreSuited, GearWants, wants, wants_of}
 use Rattle.gear_parts.specs.Worlds.{HandsAndTakes, IsMade, RefusesGear, shown_to, Tells, WorldSide}
 use Rattle.jk_server.specs.declared.orders.ends.CommandEnd.{CommandEnd}
@@ -189,7 +189,7 @@ pub record LacksFiles {G L : Type 0} (s n : CommandSide G) (ended : CommandEnd L
 -- written.
 pub record ServesSite {W G C S O X Z L : Type 0} (told : Tells W G C S O X Z) (outside : CommandOutside) (workers map : List ℕ) (format : List FormatPart) (threads : ℕ) (wanted : GearWants) (s n : CommandSide G) (ended : CommandEnd L) : Type 0 where
   pub site : AcceptedSite
-  pub is : IsFound outside workers map (found.Site site)
+  pub is : AreFound outside workers map (found.Site site)
   pub read : n.file_faults ≡ s.file_faults
   pub shown : n.world.shown ≡ appended s.world.shown (record { site = site; handed = s.world.handed } ∷ [])
   pub works : Works threads (RunsLogged told site.workers.config site.rules format threads wanted) (shown_to s.world site) n.world ended
@@ -239,12 +239,12 @@ pub data RefusesNone {G : Type 0} (outside : CommandOutside) (workers map text :
   Undone : DoesNothing status s n → RefusesNone outside workers map text s n status
   Unformed : (at : ℕ) → IsRefusedFrom text at → RefusesNone outside workers map text s n status
   Unjudged : StopsLong outside (File workers ∷ File map ∷ []) → RefusesNone outside workers map text s n status
-  Accepted : (site : AcceptedSite) → IsFound outside workers map (found.Site site) → RefusesNone outside workers map text s n status
+  Accepted : (site : AcceptedSite) → AreFound outside workers map (found.Site site) → RefusesNone outside workers map text s n status
 
 -- What `serve` hands on beside its end: of files that are refused what it found of them, however their line was written.
 abbrev pub HandsOn : {G : Type 0} → CommandOutside → (workers map text : List ℕ) → (s n : CommandSide G) → (status : ℕ) → Option SiteFound → Type 0
 HandsOn outside workers map text s n status None = RefusesNone outside workers map text s n status
-HandsOn outside workers map text s n status (Some f) = IsFound outside workers map f × (is_refused f ≡ true)
+HandsOn outside workers map text s n status (Some f) = AreFound outside workers map f × (is_refused f ≡ true)
 
 -- The application of a container of this route: it asks for no secret, and a packet has at most 8,192 bytes.
 pub record IsAppOf (route : List ℕ) (app : AppConfig) : Type 0 where

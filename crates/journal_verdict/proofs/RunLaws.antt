@@ -8,7 +8,7 @@ use Rattle.lb_model.specs.declared.opening.Opening.{Opening}
 use Rattle.std.specs.Prelude.{reverse}
 use Rattle.journal_verdict.specs.Followed.{FollowsBytes, IsFollowed, IsOpened, IsShown}
 use Rattle.journal_verdict.specs.Lines.{RunState, Stand}
-use Rattle.journal_verdict.specs.Machines.{HasRunState, KnowsAs, IsRunSoFar, IsStanding, IsViewOf, Knows, FollowerState, HasFed}
+use Rattle.journal_verdict.specs.Machines.{HasRunState, KnowsAs, IsRunSoFar, IsStanding, ShowsRun, Knows, FollowerState, HasFed}
 use Rattle.journal_verdict.specs.declared.known.Known.{Known}
 use Rattle.journal_verdict.specs.declared.known.Known.TheVariants as known
 use Rattle.journal_verdict.specs.declared.machine.Machine.{Machine}
@@ -37,7 +37,7 @@ present_of true r run v stands present =
 present_of false r run v stands present = stands.view v.view present
 
 pub shown : (m : Machine) (number : ℕ) (part bytes : List ℕ) (r : Run) (v : FollowView) → Knows (known.Going m number) part bytes
-    → m.run ≡ Some r → IsViewOf r v → (s : Stand) × FollowsBytes bytes s × IsShown s v
+    → m.run ≡ Some r → ShowsRun r v → (s : Stand) × FollowsBytes bytes s × IsShown s v
 shown m number part bytes r v knows is view =
     let s : Stand = knows.2 in
     let at : KnowsAs m s = knows.4 in

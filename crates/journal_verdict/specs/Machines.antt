@@ -100,7 +100,7 @@ Compares run taken text None = FitsOpening run taken text
 Compares run taken text (Some line) = Misfits run taken text line
 
 -- a view of where a run's Book is
-pub record IsViewOf (r : Run) (v : FollowView) : Type 0 where
+pub record ShowsRun (r : Run) (v : FollowView) : Type 0 where
   pub name : v.name ≡ r.name
   pub direct : v.direct ≡ r.direct
   pub method : v.method ≡ r.method

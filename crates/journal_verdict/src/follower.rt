@@ -1,7 +1,7 @@
 //! A balancer's journal, followed as its bytes come.
 ghost use Rattle.std.specs.Prelude.{◌≡◌, ℕ, List, [], ◌∷◌, ◌++◌, IfErr, IfOk, OnOk, true};
 ghost use Rattle.journal_verdict.specs.Followed.{IsFed, IsFollowed, IsOpened, IsStoppedText};
-ghost use Rattle.journal_verdict.specs.Machines.{AnswersByKnown, FollowerState, HasFed, IsViewOf, Knows, ShowsNone, is_going};
+ghost use Rattle.journal_verdict.specs.Machines.{AnswersByKnown, FollowerState, HasFed, ShowsRun, Knows, ShowsNone, is_going};
 ghost use Rattle.journal_verdict.specs.declared.known.Known.{Known as AnyKnown};
 ghost use Rattle.journal_verdict.specs.declared.error.FollowError.{FollowError as AnyError};
 
@@ -112,7 +112,7 @@ fn answered(known: &mut Known) -> Result<(), FollowError>
 
 /// The view of a run.
 fn view_of(run: &Run) -> Result<FollowView, NoMemory>
-    ensures { IfOk result (IsViewOf run.now) }
+    ensures { IfOk result (ShowsRun run.now) }
 {
     Ok(FollowView {
         name: run.name.copy()?,

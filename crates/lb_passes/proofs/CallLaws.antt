@@ -24,7 +24,7 @@ use Rattle.lb_book.proofs.ToldLaws.{grown-nil}
 use Rattle.lb_book.specs.Histories.{has_made}
 use Rattle.lb_passes.specs.declared.pass_view.PassView.{PassView}
 use Rattle.lb_book.proofs.HistoryLaws.{own_is_out, whole_of, whole_out}
-use Rattle.lb_passes.specs.Holds.{Commands, RefusesInTurn, TakesTurn, gained_in, own_in}
+use Rattle.lb_passes.specs.Holds.{CommandsInTurn, RefusesInTurn, TakesTurn, gained_in, own_in}
 use Rattle.lb_passes.proofs.AskLaws.{Gained}
 use Rattle.lb_passes.proofs.GainLaws.{IsTaken, adds_of, command_gives, due_gives}
 
@@ -77,7 +77,7 @@ command_gained v b new before now on command (Err e) ok err = record {
 
 pub commands_of : (v w : PassView) (b new : Journal) (before now : List Receipt) (on : Occasion) (command : Command) (r : Result (Unit {0}) (AdminError FullMark))
     → TakesTurn v w b (gained_in before now) → OnOk r (BookCommands b new before now on command)
-    → OnOk r (IsKnown (members b.opening) command × HasValues command) → OnOk r (Commands v w before now on command)
+    → OnOk r (IsKnown (members b.opening) command × HasValues command) → OnOk r (CommandsInTurn v w before now on command)
 commands_of v w b new before now on command (Ok done) turn ok named = record { book = b; new = new; turn = turn; gains = ok; named = named }
 commands_of v w b new before now on command (Err e) turn ok named = tt
 

@@ -35,7 +35,7 @@ use Rattle.lb_passes.specs.declared.pass_view.PassView.{PassView}
 use Rattle.lb_book.proofs.HistoryLaws.{whole_next, whole_of}
 use Rattle.lb_book.proofs.OwnLaws.{made-append, own_below, returned-append}
 use Rattle.lb_passes.specs.Calls.{CallChooses, CallCommands, CallDenies, CallRefuses, CallWants}
-use Rattle.lb_passes.specs.Holds.{Returns, TakesTurn, entries_in, gained_in, own_in}
+use Rattle.lb_passes.specs.Holds.{ReturnsInTurn, TakesTurn, entries_in, gained_in, own_in}
 use Rattle.lb_passes.specs.PassDesks.{AreGot, IsGot, MaySee, PassDeskState, SeesAt, view_of}
 use Rattle.lb_passes.specs.declared.desk_lists.DeskLists.{DeskLists}
 use Rattle.lb_passes.specs.declared.pass.Pass.{Pass}
@@ -278,7 +278,7 @@ module _ (passes : List Pass) (lb : ℕ) (p q : Pass) (at : get_elem? passes lb 
 
   -- A Return: every other ticket is still had.
   pub return_got : (r r' : List Receipt) (held : List (ℕ × ℕ)) (session at' ticket : ℕ) (outcome : Outcome)
-      → Returns (view_of p) (view_of q) r r' (record { lb = lb; session = session; at = at' }) ticket outcome → AreGot passes held
+      → ReturnsInTurn (view_of p) (view_of q) r r' (record { lb = lb; session = session; at = at' }) ticket outcome → AreGot passes held
       → AreGot (set passes lb q) (without held (lb, ticket))
   return_got r r' held session at' ticket outcome back are =
       let last : Receipt = receipt_of (record { lb = lb; session = session; at = at' }) back.entry in

@@ -16,7 +16,7 @@ use Rattle.lb_passes.specs.declared.pass_view.Origin.{Origin}
 use Rattle.lb_passes.specs.declared.pass_view.PassView.{PassView}
 use Rattle.lb_passes.proofs.EndLaws.{IsEnd, ends}
 use Rattle.lb_passes.proofs.SeatLaws.{carries_one}
-use Rattle.lb_passes.specs.Closing.{AreAllPasses, HasGathered, HasNumber, IsClosed, IsJoiner}
+use Rattle.lb_passes.specs.Closing.{AreAllPasses, HasGathered, HasNumber, CloseInOne, IsJoiner}
 use Rattle.lb_passes.specs.Holds.{IsIdle, own_in}
 use Rattle.lb_passes.specs.PassDesks.{view_of}
 use Rattle.lb_passes.specs.declared.pass.Pass.{Pass}
@@ -132,7 +132,7 @@ gathered_more table done p seat next had of first other =
 
 -- The end.
 pub closes : (table : TableId) (passes : List Pass) (seat : Seat Journal PassView) (o : Origin) (words : List ℕ) (xs : List Journal) (b : Journal) → AreAllPasses table passes
-    → HasGathered table passes seat → Final (Seen (IsPassTable o) seat.id seat.me.0) words xs → get_elem? xs 0 ≡ some b → IsClosed passes b
+    → HasGathered table passes seat → Final (Seen (IsPassTable o) seat.id seat.me.0) words xs → get_elem? xs 0 ≡ some b → CloseInOne passes b
 closes table passes seat o words xs b are had final taken =
     let gave = had.root are.root in
     let v : PassView = seat.me.0 in

@@ -33,7 +33,7 @@ use Rattle.lb_book.specs.declared.receipt.Receipt.{Receipt}
 use Rattle.lb_passes.specs.declared.pass_view.PassView.{PassView}
 use Rattle.lb_book.proofs.HistoryLaws.{whole_members}
 use Rattle.lb_passes.specs.Calls.{CallChooses, CallCommands, CallDenies, CallRefuses}
-use Rattle.lb_passes.specs.Holds.{Looks, Returns, TakesTurn, gained_in}
+use Rattle.lb_passes.specs.Holds.{Looks, ReturnsInTurn, TakesTurn, gained_in}
 use Rattle.lb_passes.specs.PassDesks.{pass_state}
 use Rattle.lb_passes.specs.declared.desk_lists.DeskLists.{DeskLists}
 
@@ -237,7 +237,7 @@ module _ (number : ℕ) (sizes sizes' : List ℕ) (lb : ℕ) (v w : PassView) (s
 
   -- It took a ticket back.
   pub desk_returns : (r r' : List Receipt) (h h' : List (ℕ × ℕ)) (f x session at member ticket : ℕ) (outcome : Outcome)
-      → Returns v w r r' (record { lb = lb; session = session; at = at }) ticket outcome
+      → ReturnsInTurn v w r r' (record { lb = lb; session = session; at = at }) ticket outcome
       → TakesBack (pass_state number sizes r h f x) (pass_state number sizes' r' h' f x) session at (record { lb = lb; member = member; ticket = ticket }) outcome
   desk_returns r r' h h' f x session at member ticket outcome back =
       let last : Receipt = receipt_of (record { lb = lb; session = session; at = at }) back.entry in

@@ -13,7 +13,7 @@ use Rattle.lb_book.specs.declared.desk.Choice.{Choice}
 use Rattle.lb_book.specs.declared.desk.Occasion.{Occasion}
 use Rattle.lb_book.specs.declared.plain_desk.PlainLease.{PlainLease}
 use Rattle.lb_passes.specs.declared.pass_view.PassView.{PassView}
-use Rattle.lb_passes.specs.Holds.{Commands, Denies, RefusesInTurn, Selects}
+use Rattle.lb_passes.specs.Holds.{CommandsInTurn, Denies, RefusesInTurn, Selects}
 use Rattle.lb_passes.specs.declared.desk_lists.DeskLists.{DeskLists}
 
 -- It chose as a turn at the Book picked; its ticket is held.
@@ -34,7 +34,7 @@ pub record CallDenies (v w : PassView) (old new : DeskLists) (on : Occasion) (er
   pub held : new.held.items ≡ old.held.items
 
 pub record CallCommands (v w : PassView) (old new : DeskLists) (on : Occasion) (command : Command) : Type 0 where
-  pub commands : Commands v w old.receipts.items new.receipts.items on command
+  pub commands : CommandsInTurn v w old.receipts.items new.receipts.items on command
   pub held : new.held.items ≡ old.held.items
 
 pub record CallRefuses (v w : PassView) (old new : DeskLists) (on : Occasion) (command : Command) (error : AdminError FullMark) : Type 0 where

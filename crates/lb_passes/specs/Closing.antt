@@ -52,7 +52,7 @@ pub record HasGathered (table : TableId) (done : List Pass) (seat : Seat Journal
 -- The Book of closed passes is that of one whole history, which begins where the pass of number 0 knows, and of which it keeps
 -- the entries since its last cut. In that history the passes' own entries are the entries of their numbers, each once and in
 -- order, and there are no others.
-pub record IsClosed (passes : List Pass) (b : Journal) : Type 0 where
+pub record CloseInOne (passes : List Pass) (b : Journal) : Type 0 where
   pub first : HasNumber passes 0
   pub log : List Entry
   pub history : IsHistory (view_of first.pass).origin.opening log

@@ -104,7 +104,7 @@ pub record Denies (v w : PassView) (before now : List Receipt) (on : Occasion) (
   pub gains : BookGainsDue book new before now on.lb on.session on.at (IsAskRefusal (λ mark. mark) on.at error book)
 
 -- A turn that took a ticket back.
-pub record Returns (v w : PassView) (before now : List Receipt) (on : Occasion) (ticket : ℕ) (outcome : Outcome) : Type 0 where
+pub record ReturnsInTurn (v w : PassView) (before now : List Receipt) (on : Occasion) (ticket : ℕ) (outcome : Outcome) : Type 0 where
   pub book : Journal
   pub new : Journal
   pub entry : Entry
@@ -115,7 +115,7 @@ pub record Returns (v w : PassView) (before now : List Receipt) (on : Occasion) 
   pub next : IsNext book.rules book.opening (past_of book) entry
 
 -- A turn that did a command.
-pub record Commands (v w : PassView) (before now : List Receipt) (on : Occasion) (command : Command) : Type 0 where
+pub record CommandsInTurn (v w : PassView) (before now : List Receipt) (on : Occasion) (command : Command) : Type 0 where
   pub book : Journal
   pub new : Journal
   pub turn : TakesTurn v w book (gained_in before now)

@@ -9,7 +9,7 @@ use Rattle.lb_passes.specs.declared.pass.Note.{Note}
 use Rattle.lb_passes.specs.declared.pass.Pass.{Pass}
 
 -- A note of what this pass has seen.
-pub record IsNoteOf (p : Pass) (note : Note) : Type 0 where
+pub record IsNoteOfPass (p : Pass) (note : Note) : Type 0 where
   pub of : note.seat.table_id ≡ p.seat.table_id
   pub origin : note.seat.me.0.origin ≡ (view_of p).origin
   pub seen : note.seat.me.0.seen ≡ (view_of p).seen

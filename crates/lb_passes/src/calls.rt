@@ -2,7 +2,7 @@
 ghost use Rattle.std.specs.Prelude.{◌≡◌, true, not, filter, IfOk, IfErr, OnOk};
 ghost use Rattle.lb_book.specs.Desks.{holds, is_pair};
 ghost use Rattle.lb_passes.specs.Calls.{CallChooses, CallCommands, CallDenies, CallRefuses};
-ghost use Rattle.lb_passes.specs.Holds.{Returns};
+ghost use Rattle.lb_passes.specs.Holds.{ReturnsInTurn};
 ghost use Rattle.lb_passes.specs.PassDesks.{IsOwnCall, IsOwnTicket};
 ghost use Rattle.lb_passes.specs.Passes.{KeepsSeat};
 
@@ -48,7 +48,7 @@ pub(crate) fn return_at<R: Wait>(
     requires out { IsOwnTicket back.ticket pass.old.seat.me.0 }
     requires held { holds lists.old.held.items (on.lb, back.ticket) ≡ true }
     ensures seat { KeepsSeat pass.old pass.new }
-    ensures back { Returns pass.old.seat.me.0 pass.new.seat.me.0 lists.old.receipts.items lists.new.receipts.items on back.ticket back.outcome }
+    ensures back { ReturnsInTurn pass.old.seat.me.0 pass.new.seat.me.0 lists.old.receipts.items lists.new.receipts.items on back.ticket back.outcome }
     ensures held { lists.new.held.items ≡ filter (λ x. not (is_pair (on.lb, back.ticket) x)) lists.old.held.items }
 {
     return_in(rt, book, pass, &mut lists.receipts, on, back);

@@ -2,7 +2,7 @@
 ghost use Rattle.std.specs.Prelude.{◌≡◌, ◌++◌, ◌∷◌, [], ℕ, IfOk};
 ghost use mathlib.Core.Option.{some};
 ghost use lib.ListN.{get_elem?};
-ghost use Rattle.lb_passes.specs.Closing.{AreAllPasses, HasGathered, IsClosed, IsJoiner};
+ghost use Rattle.lb_passes.specs.Closing.{AreAllPasses, HasGathered, CloseInOne, IsJoiner};
 ghost use Rattle.lb_passes.specs.declared.pass.Pass.{Pass};
 ghost use Rattle.lb_passes.specs.Plays.{joined};
 
@@ -24,7 +24,7 @@ pub struct CloseRefused {
 /// Takes out the Book, whose entries are those of the passes and no others. It takes no memory, so it isn't refused.
 pub fn close_passes(book: PassBook, passes: PassList) -> Result<Book, CloseRefused>
     requires all { AreAllPasses book.table.shared.table_id passes }
-    ensures { IfOk result (IsClosed passes) }
+    ensures { IfOk result (CloseInOne passes) }
 {
     let mut list = passes.into_vec();
     let Some(last) = list.pop() else {

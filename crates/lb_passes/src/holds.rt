@@ -1,7 +1,7 @@
 //! One turn at the Book: a Maintain if due and a call, each entry with its receipt.
 ghost use Rattle.std.specs.Prelude.{◌≡◌, ◌+◌, ◌<◌, ◌≤◌, [], vec_len, vec_capacity, IfOk, IfErr, OnOk};
 ghost use Rattle.lb_model.specs.declared.journal.TheConstants.{MOST_BYTES};
-ghost use Rattle.lb_passes.specs.Holds.{Commands, Denies, Looks, RefusesInTurn, Returns, Selects};
+ghost use Rattle.lb_passes.specs.Holds.{CommandsInTurn, Denies, Looks, RefusesInTurn, ReturnsInTurn, Selects};
 ghost use Rattle.lb_passes.specs.PassDesks.{IsOwnCall, IsOwnTicket};
 ghost use Rattle.lb_passes.specs.Passes.{KeepsSeat};
 
@@ -68,7 +68,7 @@ pub(crate) fn return_in<R: Wait>(
     requires out { IsOwnTicket back.ticket pass.old.seat.me.0 }
     ensures seat { KeepsSeat pass.old pass.new }
     ensures room { vec_capacity receipts.old ≤ vec_capacity receipts.new }
-    ensures back { Returns pass.old.seat.me.0 pass.new.seat.me.0 receipts.old.items receipts.new.items on back.ticket back.outcome }
+    ensures back { ReturnsInTurn pass.old.seat.me.0 pass.new.seat.me.0 receipts.old.items receipts.new.items on back.ticket back.outcome }
 {
     take_turn(rt, book, &mut pass.seat);
     let returned = pass
@@ -93,7 +93,7 @@ pub(crate) fn command_in<R: Wait>(
     requires room { vec_len receipts.old + 2 ≤ vec_capacity receipts.old }
     ensures seat { KeepsSeat pass.old pass.new }
     ensures room { vec_capacity receipts.old ≤ vec_capacity receipts.new }
-    ensures ok { OnOk result (Commands pass.old.seat.me.0 pass.new.seat.me.0 receipts.old.items receipts.new.items on command.now) }
+    ensures ok { OnOk result (CommandsInTurn pass.old.seat.me.0 pass.new.seat.me.0 receipts.old.items receipts.new.items on command.now) }
     ensures err { IfErr result (RefusesInTurn pass.old.seat.me.0 pass.new.seat.me.0 receipts.old.items receipts.new.items on command.now) }
 {
     take_turn(rt, book, &mut pass.seat);

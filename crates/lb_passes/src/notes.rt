@@ -1,6 +1,6 @@
 //! Notes: what one caller has seen, for another.
 ghost use Rattle.std.specs.Prelude.{◌≡◌};
-ghost use Rattle.lb_passes.specs.Notes.{IsNoteOf, Meets};
+ghost use Rattle.lb_passes.specs.Notes.{IsNoteOfPass, Meets};
 
 use crate::pass::{Note, Pass};
 use crate::pass_book::PassBook;
@@ -13,7 +13,7 @@ const ANY_WORD: usize = 0;
 pub(crate) fn note_at(book: &PassBook, pass: &mut Pass) -> Note
     requires of { pass.old.seat.table_id ≡ book.now.table.shared.table_id }
     ensures same { (pass.new.seat.me ≡ pass.old.seat.me) × (pass.new.seat.table_id ≡ pass.old.seat.table_id) × (pass.new.number ≡ pass.old.number) }
-    ensures note { IsNoteOf pass.old result }
+    ensures note { IsNoteOfPass pass.old result }
 {
     let seat = book.table.shared.split_seat::<Noting>(&mut pass.seat);
     Note { seat }

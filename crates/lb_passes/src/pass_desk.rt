@@ -46,7 +46,7 @@ impl<'b, 'r, R> PassDesk<'b, 'r, R> {
     ghost use mathlib.Core.Option.{some};
     ghost use lib.ListN.{get_elem?};
     ghost use Rattle.lb_passes.specs.declared.pass.Pass.{Pass};
-    ghost use Rattle.lb_passes.specs.Notes.{IsNoteOf, MeetsAt};
+    ghost use Rattle.lb_passes.specs.Notes.{IsNoteOfPass, MeetsAt};
     ghost use Rattle.lb_passes.specs.PassDesks.{ArePassesOf, LeavesDesk, desk_value, view_of};
 
     /// A desk with one pass of each book, in order, all of one number. It holds no ticket, and takes no memory.
@@ -86,7 +86,7 @@ impl<'b, 'r, R> PassDesk<'b, 'r, R> {
     /// A note of what the pass of balancer `lb` has seen. It takes no memory.
     pub fn note(&mut self, lb: u32) -> Note
         requires known { lb < length self.old.desk.sizes }
-        ensures note { (p : Pass) → get_elem? self.old.passes lb ≡ some p → IsNoteOf p result }
+        ensures note { (p : Pass) → get_elem? self.old.passes lb ≡ some p → IsNoteOfPass p result }
         ensures same { LeavesDesk self.old self.new }
         ensures views { map view_of self.new.passes ≡ map view_of self.old.passes }
     {

@@ -4,7 +4,7 @@ use Rattle.jk_cli.specs.declared.order.Order.{Order}
 use Rattle.jk_io.specs.Told.{appended, PutsFront, Rose}
 use Rattle.jk_io.specs.declared.traits.streams.Meanings.{Ghosts}
 use Rattle.jk_io.specs.declared.traits.surroundings.Files.{Ghosts as FilesGhosts}
-use Rattle.plain_commands.specs.Plain.{is_plain, readings, AnswersOrder, EndsWith, Plain, Prints, PrintsFront, PrintsOf}
+use Rattle.plain_commands.specs.Plain.{is_plain, readings, AnswersOrder, EndsByStatus, Plain, Prints, PrintsFront, PrintsOf}
 use Rattle.site_reports.specs.Readings.{CommandOutside, File, Reading}
 use Rattle.site_reports.specs.declared.found.SiteFound.{SiteFound}
 use Rattle.plain_commands.specs.declared.answered.PlainAnswer.{PlainAnswer}
@@ -83,7 +83,7 @@ AnswersSo command s n site end.Done = Prints command s.outside s.sent n.sent 0 s
 AnswersSo command s n site end.Bad = Prints command s.outside s.sent n.sent 1 site
 AnswersSo command s n site end.NoCommand = ⊥
 AnswersSo command s n site end.Refused = Prints command s.outside s.sent n.sent 3 site
-AnswersSo command s n site end.Running = (n.sent ≡ s.sent) × EndsWith command s.outside 4
+AnswersSo command s n site end.Running = (n.sent ≡ s.sent) × EndsByStatus command s.outside 4
 AnswersSo command s n site end.InputFault = (n.sent ≡ s.sent) × ReadFails s.faults n.faults
 AnswersSo command s n site end.OutputFault = PrintsFront command s.outside s.sent n.sent × Rose s.faults.output n.faults.output
 AnswersSo command s n site end.NoMemory = ((n.sent ≡ s.sent) ⊎ PrintsFront command s.outside s.sent n.sent) × NoneFailed s.faults n.faults

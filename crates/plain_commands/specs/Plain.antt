@@ -133,7 +133,7 @@ pub record Prints (command : Order) (outside : CommandOutside) (sent sent_now : 
   pub written : sent_now ≡ appended sent text
 
 -- The command ends with this status, of what it read.
-pub record EndsWith (command : Order) (outside : CommandOutside) (status : ℕ) : Type 0 where
+pub record EndsByStatus (command : Order) (outside : CommandOutside) (status : ℕ) : Type 0 where
   pub text : List ℕ
   pub site : Option SiteFound
   pub plain : Plain outside command text status site

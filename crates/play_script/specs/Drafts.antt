@@ -101,7 +101,7 @@ start_row c = record {
 }
 
 -- The state that the draft's balancer starts with at a moment.
-pub record IsStart (draft : DraftWords) (at : ℕ) (o : Opening) : Type 0 where
+pub record IsDraftStart (draft : DraftWords) (at : ℕ) (o : Opening) : Type 0 where
   pub config : IsConfigOf draft o.config
   pub rows : o.rows ≡ map start_row o.config.members
   pub out : o.out ≡ []

@@ -22,7 +22,7 @@ use Rattle.play_script.specs.Parts.{parts_of}
 use Rattle.play_script.specs.Printed.{answer_line, refusal_line, row_lines}
 use Rattle.play_script.specs.Heads.{head_of}
 use Rattle.play_script.specs.Steps.{step_of}
-use Rattle.play_script.specs.Drafts.{DraftWords, empty_draft, names_in, draft_after, moment_after, IsStart, IsNoBalancer}
+use Rattle.play_script.specs.Drafts.{DraftWords, empty_draft, names_in, draft_after, moment_after, IsDraftStart, IsNoBalancer}
 
 -- A blank line, or a comment.
 abbrev pub is_skipped : List ℕ → Bool
@@ -113,7 +113,7 @@ abbrev pub Starts : Option Step → DraftWords → List (List ℕ) → (number a
 Starts None draft lines number at out status = StopsScript number refusal.BadLine out status
 Starts (Some said) draft lines number at out status =
     (IsNoBalancer draft × StopsScript number refusal.BadBalancer out status)
-    ⊎ ((o : Opening) × IsStart draft at o × Runs (names_in draft) o lines number at [] out status)
+    ⊎ ((o : Opening) × IsDraftStart draft at o × Runs (names_in draft) o lines number at [] out status)
 
 -- The output of lines, the first of which has this number, where the lines before it gave this draft of a balancer.
 abbrev pub Plays : List (List ℕ) → DraftWords → (number at : ℕ) → List ℕ → ℕ → Type 0

@@ -14,7 +14,7 @@ use Rattle.site_config.specs.Refusals.{IsRefusal, LineRefusal}
 use Rattle.site_config.specs.declared.balancer.Lb.{Lb}
 use Rattle.site_config.specs.declared.endpoint.Endpoint.{Endpoint}
 use Rattle.site_workers.specs.declared.draft.Draft.{Draft}
-use Rattle.site_workers.specs.Books.{AreTooWide, HasParts, IsBook, IsLbOf, Pass, RefusesMembers, RefusesWide}
+use Rattle.site_workers.specs.Books.{AreTooWide, IsBalancerOf, IsBook, IsLbOf, Pass, RefusesMembers, RefusesWide}
 use Rattle.site_workers.specs.Given.{is_given}
 use Rattle.site_workers.specs.Lists.{Listing, firsts, members_in}
 use Rattle.site_workers.specs.Settings.{filled_or, method_in, number_or, shared, text_in, truth_or}
@@ -46,7 +46,7 @@ is_too_wide maintain recover ms (Err e) some few within m p h = book_refused mai
 
 -- the book with its texts
 pub made_lb : (v : Directive → Option Property) (maintain : ℕ) (name cookie path : List ℕ) (book : LbConfig) (ms : List MemberConfig) (es all : List Endpoint) (r : Result Lb PropsError) → IsBook v maintain ms book → all ≡ map (shared (text_in (v directive.Secret))) es → cookie ≡ filled_or (codes "JSESSIONID") (v directive.Cookie) → path ≡ filled_or (codes ";jsessionid") (v directive.Path)
-    → IfOk r (HasParts name cookie path book all) → IfOk r (IsLbOf v maintain name ms es)
+    → IfOk r (IsBalancerOf name cookie path book all) → IfOk r (IsLbOf v maintain name ms es)
 made_lb v maintain name cookie path book ms es all (Ok lb) b s c p h = record {
   named = h.named;
   booked = subst (IsBook v maintain ms) (sym h.booked) b;

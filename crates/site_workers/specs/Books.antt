@@ -40,7 +40,7 @@ pub record IsBook (v : Directive → Option Property) (maintain : ℕ) (ms : Lis
   pub members : b.members ≡ ms
 
 -- a balancer of these parts
-pub record HasParts (name the_cookie the_path : List ℕ) (book : LbConfig) (es : List Endpoint) (lb : Lb) : Type 0 where
+pub record IsBalancerOf (name the_cookie the_path : List ℕ) (book : LbConfig) (es : List Endpoint) (lb : Lb) : Type 0 where
   pub named : lb.name ≡ name
   pub booked : lb.book ≡ book
   pub ends : lb.ends ≡ es

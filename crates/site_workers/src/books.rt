@@ -2,7 +2,7 @@
 ghost use Rattle.std.specs.Prelude.{◌≡◌, ◌≤◌, ◌<◌, length, IfOk, IfErr, OnErr, OnOk};
 ghost use Rattle.lb_model.specs.Ranges.{AreInRange};
 ghost use Rattle.site_config.specs.Entries.{as_properties};
-ghost use Rattle.site_workers.specs.Books.{AreBookable, AreTooWide, IsBook, IsLbOf, HasParts, RefusesWide};
+ghost use Rattle.site_workers.specs.Books.{AreBookable, AreTooWide, IsBook, IsLbOf, IsBalancerOf, RefusesWide};
 ghost use Rattle.site_workers.specs.Listings.{as_listing, as_listings};
 ghost use Rattle.site_config.specs.Refusals.{IsRefusal};
 ghost use Rattle.site_workers.specs.Rows.{property_at};
@@ -63,7 +63,7 @@ fn made_of(
     requires paired { length ends.items ≡ length book.members }
     requires cookie { 0 < length cookie.now }
     requires path { 0 < length path.now }
-    ensures { IfOk result (HasParts name.now cookie.now path.now book ends.items) }
+    ensures { IfOk result (IsBalancerOf name.now cookie.now path.now book ends.items) }
 {
     let texts = texts_of(alloc, name, cookie, path)?;
     Ok(Lb {

@@ -6,7 +6,7 @@ use Rattle.lb_passes.specs.declared.pass_view.PassView.{PassView}
 use Rattle.atomic_table.specs.Table.{Me}
 use Rattle.lb_book.specs.Journal.{Journal}
 use Rattle.lb_passes.specs.Holds.{own_in}
-use Rattle.lb_passes.specs.Notes.{IsNoteOf}
+use Rattle.lb_passes.specs.Notes.{IsNoteOfPass}
 use Rattle.lb_passes.specs.PassDesks.{PassDeskState, StayPasses, pass_state, view_of}
 use Rattle.lb_passes.specs.declared.pass.Pass.{Pass}
 use Rattle.lb_passes.proofs.CalledLaws.{got_same, views_set}
@@ -33,7 +33,7 @@ returns-clause-note g c = λ p there.
     let at = at_place c.self.inside.passes.items c.args.lb c.index_mut.result.now lt c.index_mut.ensures.value in
     let d = c.self.inside in
     let here : get_elem? d.passes.items c.args.lb ≡ some p = subst (λ (s : PassDeskState). get_elem? s.passes c.args.lb ≡ some p) (sym c.self.view_is) there in
-    subst (λ (x : Pass). IsNoteOf x c.note_at.result) (some-injective c.index_mut.result.now p (sym at ∙ here)) c.note_at.ensures.note
+    subst (λ (x : Pass). IsNoteOfPass x c.note_at.result) (some-injective c.index_mut.result.now p (sym at ∙ here)) c.note_at.ensures.note
 
 pub returns-clause-same : goal.returns-clause-same
 returns-clause-same g c = record {
