@@ -23,7 +23,7 @@ use Rattle.forwarding.specs.FirstPiece.{first_len}
 use Rattle.forwarding.proofs.FirstPieceLaws.{within_length}
 use Rattle.ajp_container.specs.Answer.{answer_of}
 use Rattle.ajp_container.specs.declared.app_config.AppConfig.{AppConfig}
-use Rattle.drill.specs.Meeting.{EndToEnd, EndToEndOfExchange, IsDoneWith, forwarded, front_of, kind_for, plan_on, reply_for}
+use Rattle.drill.specs.Meeting.{EndToEnd, EndToEndOfExchange, IsDoneWith, forward_to, front_of, kind_for, plan_on, reply_for}
 use Rattle.drill.proofs.BoundLaws.{answers-short, few-messages, first-short}
 use Rattle.drill.proofs.LengthLaws.{length_below, named_length}
 use Rattle.drill.proofs.MeetingLaws.{Heard, SomeTalk, after_ping, heard, head-asks, chunks-asks, reverse-asks, some_talk, took_request}
@@ -85,7 +85,7 @@ end_to_end app q member endpoint own f s n t = t.connector.written ∙ ap (appen
     behind = behind_request plan.piece q.head.plan q.balancer.ends own t.first past
 
     payload : List ℕ
-    payload = payload_of (forwarded q member endpoint)
+    payload = payload_of (forward_to q member endpoint)
 
     put_is : t.connector.put ≡ ping_of plan ++ (packet false payload ++ behind)
     put_is =

@@ -56,7 +56,7 @@ use Rattle.ajp_container.specs.declared.ends.Stopped.TheVariants.{Closed}
 use Rattle.ajp_container.proofs.SentLaws.{owed-spelled}
 use Rattle.drill.specs.FirstExchange.{FirstExchange}
 use Rattle.drill.specs.FirstGet.{FirstGet, first_bytes, first_errand, first_head, first_reply, no_data}
-use Rattle.drill.specs.Meeting.{IsDoneWith, IsExchangeWith, IsClientRequest, forwarded, front_of, plan_on}
+use Rattle.drill.specs.Meeting.{IsDoneWith, IsExchangeWith, IsClientRequest, forward_to, front_of, plan_on}
 
 -- ---- the head
 
@@ -168,7 +168,7 @@ spelled : SpellsForward (as_read sent_forward) (payload_of sent_forward)
 spelled = written_spells sent_forward forward-is fields-fit
 
 forwarded-is : (balancer : Lb) (member : MemberConfig) (endpoint : Endpoint) (session lb : ℕ) (terms : Terms) → balancer.book.direct ≡ true → endpoint.secret ≡ None
-    → forwarded (first_errand session lb balancer terms) member endpoint ≡ sent_forward
+    → forward_to (first_errand session lb balancer terms) member endpoint ≡ sent_forward
 forwarded-is balancer member endpoint session lb terms direct secret = rw (direct, secret) refl
 
 -- ---- what the container sends
@@ -367,7 +367,7 @@ first_get app balancer member endpoint body session lb terms dialled sent receiv
     pong : List ℕ
     pong = pong_of plan
 
-    same : forwarded (first_errand session lb balancer terms) member endpoint ≡ sent_forward
+    same : forward_to (first_errand session lb balancer terms) member endpoint ≡ sent_forward
     same = forwarded-is balancer member endpoint session lb terms is.direct is.secret
 
     talk : IsDoneWith app (first_errand session lb balancer terms) member endpoint no_data (as_read sent_forward)
@@ -387,7 +387,7 @@ first_get app balancer member endpoint body session lb terms dialled sent receiv
         request = request;
         fits = record {
           fields = subst FieldsFit (sym same) fields-fit;
-          packet = subst (λ (m : ℕ). FitsPacket m (payload_of (forwarded (first_errand session lb balancer terms) member endpoint))) (sym is.packet)
+          packet = subst (λ (m : ℕ). FitsPacket m (payload_of (forward_to (first_errand session lb balancer terms) member endpoint))) (sym is.packet)
               (subst (λ (g : Forward). FitsPacket 8192 (payload_of g)) (sym same) packet-fits);
         };
         first_is = refl;
@@ -474,7 +474,7 @@ first_exchange app balancer m member endpoint body session lb terms dialled fail
       body = own;
     }
 
-    same : forwarded q member endpoint ≡ sent_forward
+    same : forward_to q member endpoint ≡ sent_forward
     same = forwarded-is balancer member endpoint session lb terms is.direct is.secret
 
     there : data_at own ≡ Some no_data
@@ -533,7 +533,7 @@ first_exchange app balancer m member endpoint body session lb terms dialled fail
       size = is.packet ∙ sym is.app_packet;
       fits = record {
         fields = subst FieldsFit (sym same) fields-fit;
-        packet = subst (λ (k : ℕ). FitsPacket k (payload_of (forwarded q member endpoint))) (sym is.packet)
+        packet = subst (λ (k : ℕ). FitsPacket k (payload_of (forward_to q member endpoint))) (sym is.packet)
             (subst (λ (g : Forward). FitsPacket 8192 (payload_of g)) (sym same) packet-fits);
       };
       container = container app plan.ping [] is.app_packet is.app_secret;

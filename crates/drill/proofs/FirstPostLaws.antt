@@ -47,7 +47,7 @@ use Rattle.ajp_container.specs.declared.app_config.AppConfig.{AppConfig}
 use Rattle.ajp_container.specs.declared.ends.Stopped.TheVariants.{Closed}
 use Rattle.ajp_container.proofs.SentLaws.{owed-spelled}
 use Rattle.drill.specs.FirstPost.{FirstPost, hello, hello_data, post_bytes, post_errand, post_head, post_reply}
-use Rattle.drill.specs.Meeting.{IsDoneWith, IsClientRequest, forwarded, plan_on}
+use Rattle.drill.specs.Meeting.{IsDoneWith, IsClientRequest, forward_to, plan_on}
 use Rattle.drill.proofs.FirstGetLaws.{no-request, ping_bytes, pinged, pings_for, pong_bytes, short-pong}
 
 -- ---- the head
@@ -172,7 +172,7 @@ spelled : SpellsForward (as_read sent_forward) (payload_of sent_forward)
 spelled = written_spells sent_forward forward-is fields-fit
 
 forwarded-is : (balancer : Lb) (member : MemberConfig) (endpoint : Endpoint) (session lb : ℕ) (terms : Terms) → balancer.book.direct ≡ true → endpoint.secret ≡ None
-    → forwarded (post_errand session lb balancer terms) member endpoint ≡ sent_forward
+    → forward_to (post_errand session lb balancer terms) member endpoint ≡ sent_forward
 forwarded-is balancer member endpoint session lb terms direct secret = rw (direct, secret) refl
 
 -- five bytes are a first piece for each member
@@ -364,7 +364,7 @@ first_post app balancer member endpoint body session lb terms dialled sent recei
     pong : List ℕ
     pong = pong_of plan
 
-    same : forwarded (post_errand session lb balancer terms) member endpoint ≡ sent_forward
+    same : forward_to (post_errand session lb balancer terms) member endpoint ≡ sent_forward
     same = forwarded-is balancer member endpoint session lb terms is.direct is.secret
 
     talk : IsDoneWith app (post_errand session lb balancer terms) member endpoint hello_data (as_read sent_forward)
@@ -384,7 +384,7 @@ first_post app balancer member endpoint body session lb terms dialled sent recei
         request = request;
         fits = record {
           fields = subst FieldsFit (sym same) fields-fit;
-          packet = subst (λ (m : ℕ). FitsPacket m (payload_of (forwarded (post_errand session lb balancer terms) member endpoint))) (sym is.packet)
+          packet = subst (λ (m : ℕ). FitsPacket m (payload_of (forward_to (post_errand session lb balancer terms) member endpoint))) (sym is.packet)
               (subst (λ (g : Forward). FitsPacket 8192 (payload_of g)) (sym same) packet-fits);
         };
         first_is = ap (λ (n : ℕ). take n hello) (sym (five balancer.ends));

@@ -44,8 +44,8 @@ pub record IsClientRequest (head : Head) (own : Data) : Type 0 where
   pub brings : own ≡ data_from behind (start_of head.plan)
 
 -- the Forward Request of a request for a member
-abbrev pub forwarded : Errand → MemberConfig → Endpoint → Forward
-forwarded q member endpoint = forward_for q.head q.peer q.balancer.book.direct member endpoint
+abbrev pub forward_to : Errand → MemberConfig → Endpoint → Forward
+forward_to q member endpoint = forward_for q.head q.peer q.balancer.book.direct member endpoint
 
 -- how much of its data is sent right after the Forward Request
 abbrev pub front_of : Errand → ℕ
@@ -55,7 +55,7 @@ front_of q = first_len q.head.plan q.balancer.ends
 -- each talk of an exchange: a request that doesn't fit has none, and after a talk that took more there is no other.
 pub record IsReadyForTalk (q : Errand) (member : MemberConfig) (endpoint : Endpoint) (own : Data) (first : List ℕ) (b : BodyAt) : Type 0 where
   pub request : IsClientRequest q.head own
-  pub fits : FitsForward endpoint.packet (forwarded q member endpoint)
+  pub fits : FitsForward endpoint.packet (forward_to q member endpoint)
   pub first_is : first ≡ take (front_of q) own.bytes
   pub left : data_at b ≡ dropped (front_of q) (Some own)
 
@@ -95,7 +95,7 @@ pub record IsDoneWith (app : AppConfig) (q : Errand) (member : MemberConfig) (en
   pub connector : IsDone (plan_on q first member endpoint dialled) s n told reuse bytes
   pub container : IsTalk app before after end
   pub meet : Meet s.line n.line before after
-  pub spelled : SpellsForward f (payload_of (forwarded q member endpoint))
+  pub spelled : SpellsForward f (payload_of (forward_to q member endpoint))
   pub answered : IsTrue (not (drops (application_of app f)))
 
 abbrev pub kind_for : Errand → RequestKind
@@ -125,10 +125,10 @@ pub record IsExchangeWith (app : AppConfig) (q : Errand) (member : ℕ) (own : D
   pub request : IsClientRequest q.head own
   pub there : data_at s.body ≡ Some own
   pub size : last.endpoint.packet ≡ app.packet
-  pub fits : FitsForward last.endpoint.packet (forwarded q last.config last.endpoint)
+  pub fits : FitsForward last.endpoint.packet (forward_to q last.config last.endpoint)
   pub container : IsTalk app before after end
   pub meet : Meet last.talk.opened last.talk.closed before after
-  pub spelled : SpellsForward f (payload_of (forwarded q last.config last.endpoint))
+  pub spelled : SpellsForward f (payload_of (forward_to q last.config last.endpoint))
   pub answered : IsTrue (not (drops (application_of app f)))
 
 -- The same of an exchange, whatever talks failed before the last.

@@ -21,7 +21,7 @@ use Rattle.lb_model.specs.declared.state.MemberState.TheVariants as state
 use Rattle.play_script.specs.Values.{flag_of, method_of, short_number}
 use Rattle.journal_text.specs.Ranges.{FitsRedirect, FitsState, IsShortIfAny}
 use Rattle.journal_text.specs.Readings.{activation_of, given, how_of, kind_of, redirect_of, state_of}
-use Rattle.journal_text.specs.Words.{activation_change, activation_word, flag, how_word, kind_word, method_word, optional, redirect_change, state_word}
+use Rattle.journal_text.specs.Words.{activation_change, activation_letter, flag, how_word, kind_word, method_letter, optional, redirect_change, state_word}
 use Rattle.journal_text.proofs.NumberFacts.{long_back, numeral, short_back}
 use Rattle.journal_text.proofs.SplitFacts.{IsGraphic, graphic_append}
 
@@ -48,24 +48,24 @@ pub flag_graphic : (b : Bool) → IsGraphic (flag b)
 flag_graphic true = refl
 flag_graphic false = refl
 
-pub method_back : (m : Method) → method_of (method_word m) ≡ Some m
+pub method_back : (m : Method) → method_of (method_letter m) ≡ Some m
 method_back method.Request = refl
 method_back method.Session = refl
 method_back method.Traffic = refl
 method_back method.Busyness = refl
 
-pub method_graphic : (m : Method) → IsGraphic (method_word m)
+pub method_graphic : (m : Method) → IsGraphic (method_letter m)
 method_graphic method.Request = refl
 method_graphic method.Session = refl
 method_graphic method.Traffic = refl
 method_graphic method.Busyness = refl
 
-pub activation_back : (a : Activation) → activation_of (activation_word a) ≡ Some a
+pub activation_back : (a : Activation) → activation_of (activation_letter a) ≡ Some a
 activation_back activation.Active = refl
 activation_back activation.Disabled = refl
 activation_back activation.Stopped = refl
 
-pub activation_graphic : (a : Activation) → IsGraphic (activation_word a)
+pub activation_graphic : (a : Activation) → IsGraphic (activation_letter a)
 activation_graphic activation.Active = refl
 activation_graphic activation.Disabled = refl
 activation_graphic activation.Stopped = refl

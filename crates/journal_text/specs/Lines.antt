@@ -4,7 +4,7 @@ use Rattle.std.specs.List.{flat_map}
 use Rattle.lb_model.specs.declared.journal.Entry.{Entry}
 use Rattle.journal_text.specs.Calls.{answer_words, call_words}
 use Rattle.journal_text.specs.Names.{name_word}
-use Rattle.journal_text.specs.Words.{activation_word, flag, method_word, optional, state_word}
+use Rattle.journal_text.specs.Words.{activation_letter, flag, method_letter, optional, state_word}
 use Rattle.journal_text.specs.declared.line.BalancerValues.{BalancerValues}
 use Rattle.journal_text.specs.declared.line.Beginning.{Beginning}
 use Rattle.journal_text.specs.declared.line.Line.{Line}
@@ -14,7 +14,7 @@ use Rattle.journal_text.specs.declared.line.MemberValues.{MemberValues}
 -- METHOD STICKY FORCE DIRECT MAINTAIN RECOVER MEMBERS
 abbrev pub balancer_words : BalancerValues → List (List ℕ)
 balancer_words b =
-    method_word b.method ∷ flag b.sticky ∷ flag b.force ∷ flag b.direct ∷ decimal b.maintain ∷ decimal b.recover ∷ decimal b.members ∷ []
+    method_letter b.method ∷ flag b.sticky ∷ flag b.force ∷ flag b.direct ∷ decimal b.maintain ∷ decimal b.recover ∷ decimal b.members ∷ []
 
 -- REDIRECT POOL STATE LOAD
 abbrev pub standing_words : MemberValues → List (List ℕ)
@@ -22,7 +22,7 @@ standing_words m = optional m.redirect ∷ decimal m.pool ∷ state_word m.state
 
 -- FACTOR DISTANCE ACTIVATION, and those
 abbrev pub member_words : MemberValues → List (List ℕ)
-member_words m = decimal m.factor ∷ decimal m.distance ∷ activation_word m.activation ∷ standing_words m
+member_words m = decimal m.factor ∷ decimal m.distance ∷ activation_letter m.activation ∷ standing_words m
 
 -- NEXT MOMENT MAINTAINED CHOSEN
 abbrev pub beginning_words : Beginning → List (List ℕ)

@@ -21,16 +21,16 @@ optional (Some n) = decimal n
 abbrev pub flag : Bool → List ℕ
 flag b = if b then codes "1" else codes "0"
 
-abbrev pub method_word : Method → List ℕ
-method_word method.Request = codes "R"
-method_word method.Session = codes "S"
-method_word method.Traffic = codes "T"
-method_word method.Busyness = codes "B"
+abbrev pub method_letter : Method → List ℕ
+method_letter method.Request = codes "R"
+method_letter method.Session = codes "S"
+method_letter method.Traffic = codes "T"
+method_letter method.Busyness = codes "B"
 
-abbrev pub activation_word : Activation → List ℕ
-activation_word activation.Active = codes "A"
-activation_word activation.Disabled = codes "D"
-activation_word activation.Stopped = codes "S"
+abbrev pub activation_letter : Activation → List ℕ
+activation_letter activation.Active = codes "A"
+activation_letter activation.Disabled = codes "D"
+activation_letter activation.Stopped = codes "S"
 
 abbrev pub state_word : MemberState → List ℕ
 state_word state.Ok = codes "ok"
@@ -51,7 +51,7 @@ how_word how.Balanced = codes "balanced"
 -- what an update changes of a member, `-` where it changes nothing
 abbrev pub activation_change : Option Activation → List ℕ
 activation_change None = codes "-"
-activation_change (Some a) = activation_word a
+activation_change (Some a) = activation_letter a
 
 abbrev pub redirect_change : Redirect → List ℕ
 redirect_change redirect.Keep = codes "-"

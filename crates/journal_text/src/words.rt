@@ -1,6 +1,6 @@
 //! Words that are added to a line, each after a space.
 ghost use Rattle.std.specs.Prelude.{◌≡◌, ◌∷◌, ◌++◌, OnOk, decimal};
-ghost use Rattle.journal_text.specs.Words.{activation_change, activation_word, flag, how_word, kind_word, method_word, optional, redirect_change, state_word};
+ghost use Rattle.journal_text.specs.Words.{activation_change, activation_letter, flag, how_word, kind_word, method_letter, optional, redirect_change, state_word};
 
 use jk_io::{Bytes, NoMemory, put_decimal};
 use lb_model::{Activation, How, Kind, MemberState, Method, Redirect};
@@ -47,8 +47,8 @@ pub(crate) fn flag(truth: bool) -> &'static [u8]
     if truth { b"1" } else { b"0" }
 }
 
-pub(crate) fn method_word(method: Method) -> &'static [u8]
-    ensures { result.now ≡ method_word method }
+pub(crate) fn method_letter(method: Method) -> &'static [u8]
+    ensures { result.now ≡ method_letter method }
 {
     match method {
         Method::Request => b"R",
@@ -58,8 +58,8 @@ pub(crate) fn method_word(method: Method) -> &'static [u8]
     }
 }
 
-pub(crate) fn activation_word(activation: Activation) -> &'static [u8]
-    ensures { result.now ≡ activation_word activation }
+pub(crate) fn activation_letter(activation: Activation) -> &'static [u8]
+    ensures { result.now ≡ activation_letter activation }
 {
     match activation {
         Activation::Active => b"A",
@@ -93,7 +93,7 @@ pub(crate) fn activation_change(activation: Option<Activation>) -> &'static [u8]
 {
     match activation {
         None => b"-",
-        Some(activation) => activation_word(activation),
+        Some(activation) => activation_letter(activation),
     }
 }
 

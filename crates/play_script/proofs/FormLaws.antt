@@ -13,16 +13,16 @@ use Rattle.lb_model.specs.declared.change.Redirect.{Redirect}
 use Rattle.play_script.specs.Fields.{given, number_in, redirect_in, redirect_of, kept_without}
 use Rattle.play_script.specs.Values.{◌>>=◌, activation_of, short_number, byte_count, end, value_of, past}
 use Rattle.play_script.specs.Steps.{ask_of, step_from, change_of, change_after}
-use Rattle.play_script.specs.Forms.{StepForm, at, select, select_old, select_route, back, back_with, maintain, update, reset, recover, show, ChangeTexts, SaysChange, words_of_change, word_of, field, Leads}
+use Rattle.play_script.specs.Forms.{StepForm, at, select, select_old, select_route, back, back_with, maintain, update, reset, recover, show, ChangeTexts, SaysChange, words_of_change, kind_word, field, Leads}
 
 back_read : (names : List (List ℕ)) (k : Kind) (text : List ℕ) (t : ℕ) → decimal_of text ≡ Some t
-    → step_from names (word_of k ∷ text ∷ []) ≡ Some (step.Ask (call.Return t (record { kind = k; bytes = 0 })))
+    → step_from names (kind_word k ∷ text ∷ []) ≡ Some (step.Ask (call.Return t (record { kind = k; bytes = 0 })))
 back_read names kind.Done text t h = rw h refl
 back_read names kind.Failed text t h = rw h refl
 back_read names kind.Gone text t h = rw h refl
 
 back_with_read : (names : List (List ℕ)) (k : Kind) (text size : List ℕ) (t n : ℕ) → decimal_of text ≡ Some t → byte_count size ≡ Some n
-    → step_from names (word_of k ∷ text ∷ size ∷ []) ≡ Some (step.Ask (call.Return t (record { kind = k; bytes = n })))
+    → step_from names (kind_word k ∷ text ∷ size ∷ []) ≡ Some (step.Ask (call.Return t (record { kind = k; bytes = n })))
 back_with_read names kind.Done text size t n h s = rw (h, s) refl
 back_with_read names kind.Failed text size t n h s = rw (h, s) refl
 back_with_read names kind.Gone text size t n h s = rw (h, s) refl

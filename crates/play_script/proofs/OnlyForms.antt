@@ -26,7 +26,7 @@ use Rattle.play_script.specs.Verbs.{verb_of}
 use Rattle.play_script.specs.Fields.{given, activation_in, number_in, redirect_in, redirect_of, kept_without}
 use Rattle.play_script.specs.Values.{◌>>=◌, short_number, byte_count, end, value_of, past}
 use Rattle.play_script.specs.Steps.{ask_of, old_ask, bytes_in, return_of, step_by, step_from, change_of, change_after, update_of}
-use Rattle.play_script.specs.Forms.{StepForm, at, select, select_old, select_route, back, back_with, maintain, update, reset, recover, show, ChangeTexts, SaysChange, words_of_change, word_of, field, Leads}
+use Rattle.play_script.specs.Forms.{StepForm, at, select, select_old, select_route, back, back_with, maintain, update, reset, recover, show, ChangeTexts, SaysChange, words_of_change, kind_word, field, Leads}
 
 bind_some : {X Y : Type 0} (o : Option X) (f : X → Option Y) (y : Y) → (o >>= f) ≡ Some y → (x : X) × (o ≡ Some x) × (f x ≡ Some y)
 bind_some None f y h = absurd cc
@@ -190,19 +190,19 @@ module _ (names : List (List ℕ)) (said : Step) where
           (subst (λ s. StepForm names (codes "select" ∷ (codes "route=" ++ named.0) ∷ []) s) (ap (λ (x : Ask). step.Ask (call.Select x)) routed.2 ∙ e)
           (select_route named.2))
 
-  back_form : (k : Kind) (words : List (List ℕ)) → option_map step.Ask (return_of k words) ≡ Some said → StepForm names (word_of k ∷ words) said
+  back_form : (k : Kind) (words : List (List ℕ)) → option_map step.Ask (return_of k words) ≡ Some said → StepForm names (kind_word k ∷ words) said
   back_form k [] h = absurd cc
   back_form k (text ∷ words) h =
       let asked = map_some step.Ask (return_of k (text ∷ words)) said h in
       let ticket = bind_some (decimal_of text) _ asked.0 asked.1 in
-      subst (λ s. StepForm names (word_of k ∷ text ∷ words) s) asked.2 (sized words ticket.0 asked.0 ticket.1 ticket.2)
+      subst (λ s. StepForm names (kind_word k ∷ text ∷ words) s) asked.2 (sized words ticket.0 asked.0 ticket.1 ticket.2)
     where
       sized : (words : List (List ℕ)) (t : ℕ) (asked : Call) → decimal_of text ≡ Some t
-          → option_map (λ bytes. call.Return t (record { kind = k; bytes = bytes })) (bytes_in words) ≡ Some asked → StepForm names (word_of k ∷ text ∷ words) (step.Ask asked)
-      sized [] t asked is_t h = subst (λ x. StepForm names (word_of k ∷ text ∷ []) (step.Ask x)) (same_some _ asked h) (back is_t)
+          → option_map (λ bytes. call.Return t (record { kind = k; bytes = bytes })) (bytes_in words) ≡ Some asked → StepForm names (kind_word k ∷ text ∷ words) (step.Ask asked)
+      sized [] t asked is_t h = subst (λ x. StepForm names (kind_word k ∷ text ∷ []) (step.Ask x)) (same_some _ asked h) (back is_t)
       sized (size ∷ []) t asked is_t h =
           let n = map_some (λ bytes. call.Return t (record { kind = k; bytes = bytes })) (byte_count size) asked h in
-          subst (λ x. StepForm names (word_of k ∷ text ∷ size ∷ []) (step.Ask x)) n.2 (back_with is_t n.1)
+          subst (λ x. StepForm names (kind_word k ∷ text ∷ size ∷ []) (step.Ask x)) n.2 (back_with is_t n.1)
       sized (size ∷ next ∷ more) t asked is_t h = absurd cc
 
   by_verb : (v : Verb) (words : List (List ℕ)) → step_by names v words ≡ Some said → StepForm names (verb_word v ∷ words) said

@@ -16,10 +16,10 @@ use Rattle.play_script.specs.Fields.{given, redirect_of}
 use Rattle.play_script.specs.Steps.{ask_of}
 
 -- The word that a Return of this kind begins with.
-abbrev pub word_of : Kind → List ℕ
-word_of kind.Done = codes "done"
-word_of kind.Failed = codes "failed"
-word_of kind.Gone = codes "gone"
+abbrev pub kind_word : Kind → List ℕ
+kind_word kind.Done = codes "done"
+kind_word kind.Failed = codes "failed"
+kind_word kind.Gone = codes "gone"
 
 -- A field KEY=VALUE, where it is there.
 abbrev pub field : List ℕ → Option (List ℕ) → List (List ℕ)
@@ -59,9 +59,9 @@ pub data StepForm (names : List (List ℕ)) : List (List ℕ) → Step → Type 
   select_route : {name : List ℕ} {m : ℕ} → index_of names name ≡ Some m
       → StepForm names (codes "select" ∷ (codes "route=" ++ name) ∷ []) (step.Ask (call.Select (ask_of false (Some m))))
   back : {k : Kind} {text : List ℕ} {t : ℕ} → decimal_of text ≡ Some t
-      → StepForm names (word_of k ∷ text ∷ []) (step.Ask (call.Return t (record { kind = k; bytes = 0 })))
+      → StepForm names (kind_word k ∷ text ∷ []) (step.Ask (call.Return t (record { kind = k; bytes = 0 })))
   back_with : {k : Kind} {text size : List ℕ} {t n : ℕ} → decimal_of text ≡ Some t → byte_count size ≡ Some n
-      → StepForm names (word_of k ∷ text ∷ size ∷ []) (step.Ask (call.Return t (record { kind = k; bytes = n })))
+      → StepForm names (kind_word k ∷ text ∷ size ∷ []) (step.Ask (call.Return t (record { kind = k; bytes = n })))
   maintain : StepForm names (codes "maintain" ∷ []) (step.Ask call.Maintain)
   update : {name : List ℕ} {m : ℕ} {t : ChangeTexts} {c : Change} → index_of names name ≡ Some m → SaysChange names t c
       → StepForm names (codes "update" ∷ name ∷ words_of_change t) (step.Ask (call.Admin (command.Update m c)))

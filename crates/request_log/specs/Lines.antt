@@ -36,8 +36,8 @@ path_of target = before_first (λ b. b == 63) target
 abbrev pub query_of : List ℕ → List ℕ
 query_of target = drop (position_or_len (λ b. b == 63) target) target
 
-abbrev pub version_text : Bool → List ℕ
-version_text old = if old then codes "HTTP/1.0" else codes "HTTP/1.1"
+abbrev pub protocol_of : Bool → List ℕ
+protocol_of old = if old then codes "HTTP/1.0" else codes "HTTP/1.1"
 
 abbrev pub method_text : Asked → List ℕ
 method_text asked.Refused = codes "-"
@@ -53,7 +53,7 @@ query_text (asked.Line method target old) = escaped (query_of target)
 
 abbrev pub first_text : Asked → List ℕ
 first_text asked.Refused = codes "-"
-first_text (asked.Line method target old) = escaped method ++ codes " " ++ escaped target ++ codes " " ++ version_text old
+first_text (asked.Line method target old) = escaped method ++ codes " " ++ escaped target ++ codes " " ++ protocol_of old
 
 -- ---- what was answered, and what was seen besides
 

@@ -1,6 +1,6 @@
 //! The request in a log's line: method, path and query, and the request line whole.
 ghost use Rattle.std.specs.Prelude.{◌≡◌, ◌++◌, OnOk};
-ghost use Rattle.request_log.specs.Lines.{first_text, method_text, path_of, path_text, query_of, query_text, version_text};
+ghost use Rattle.request_log.specs.Lines.{first_text, method_text, path_of, path_text, query_of, query_text, protocol_of};
 
 use crate::escape::put_escaped;
 use jk_io::{Bytes, NoMemory};
@@ -26,8 +26,8 @@ fn path_of(target: &[u8]) -> &[u8]
     &target[..target.len() - query_of(target).len()]
 }
 
-fn version_text(old: bool) -> &'static [u8]
-    ensures { result.now ≡ version_text old }
+fn protocol_of(old: bool) -> &'static [u8]
+    ensures { result.now ≡ protocol_of old }
 {
     if old { b"HTTP/1.0" } else { b"HTTP/1.1" }
 }
@@ -73,7 +73,7 @@ pub(crate) fn put_first(out: &mut Bytes, asked: &Asked) -> Result<(), NoMemory>
             out.extend(b" ")?;
             put_escaped(out, target.as_slice())?;
             out.extend(b" ")?;
-            out.extend(version_text(*old))
+            out.extend(protocol_of(*old))
         }
     }
 }

@@ -2,7 +2,7 @@
 use Rattle.std.proofs.Common.{◌≡◌, ℕ, ◌+◌, ◌-◌, ◌<◌, Bool, true, false, List, [], ◌∷◌, length, get_or, take, drop, Option, Some, None, suc, zero, arith, refl, sym, add-one, cond, subst}
 use Rattle.std.proofs.lemmas.List.{take_rest}
 use Rattle.std.specs.Option.{option_map}
-use Rattle.site_config.specs.Cut.{cut, with_front}
+use Rattle.site_config.specs.Cut.{cut, onto_name}
 
 -- no byte before this one passes, and it does
 pub cut_found : (p : ℕ → Bool) (text : List ℕ) (i : ℕ) → i < length text → ((k : ℕ) → k < i → p (get_or text k 0) ≡ false) → p (get_or text i 0) ≡ true → cut p text ≡ Some (take i text, drop (suc i) text)
@@ -29,7 +29,7 @@ abbrev pub IsShorter : List ℕ → Option (List ℕ × List ℕ) → Type 0
 IsShorter text None = Unit {0}
 IsShorter text (Some parts) = length parts.1 < length text
 
-shorter_behind : (b : ℕ) (bs : List ℕ) (o : Option (List ℕ × List ℕ)) → IsShorter bs o → IsShorter (b ∷ bs) (option_map (with_front b) o)
+shorter_behind : (b : ℕ) (bs : List ℕ) (o : Option (List ℕ × List ℕ)) → IsShorter bs o → IsShorter (b ∷ bs) (option_map (onto_name b) o)
 shorter_behind b bs None h = tt
 shorter_behind b bs (Some parts) h = omega arith
 
@@ -37,7 +37,7 @@ shorter : (p : ℕ → Bool) (text : List ℕ) → IsShorter text (cut p text)
 shorter p [] = tt
 shorter p (b ∷ bs) = by_test (p b) (shorter p bs)
   where
-    by_test : (t : Bool) → IsShorter bs (cut p bs) → IsShorter (b ∷ bs) (cond t (Some ([], bs)) (option_map (with_front b) (cut p bs)))
+    by_test : (t : Bool) → IsShorter bs (cut p bs) → IsShorter (b ∷ bs) (cond t (Some ([], bs)) (option_map (onto_name b) (cut p bs)))
     by_test true h = omega arith
     by_test false h = shorter_behind b bs (cut p bs) h
 

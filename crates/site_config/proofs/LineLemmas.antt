@@ -5,7 +5,7 @@ use Rattle.std.proofs.lemmas.Option.{some_pair_parts}
 use Rattle.std.proofs.lemmas.Bool.{and_cases, and_parts, false≢true}
 use Rattle.std.specs.Option.{option_map}
 use Rattle.std.specs.List.{onto_first}
-use Rattle.site_config.specs.Cut.{cut, cut_at, with_front}
+use Rattle.site_config.specs.Cut.{cut, cut_at, onto_name}
 use Rattle.site_config.specs.Lines.{lines, begins_with, without_return}
 
 -- a cut after the first byte
@@ -13,7 +13,7 @@ abbrev pub cut_behind : ℕ → List ℕ → (o : Option (List ℕ × List ℕ))
 cut_behind b bs None front back = ⊥
 cut_behind b bs (Some parts) front back = (front ≡ b ∷ parts.0) × (back ≡ parts.1)
 
-some_parts : (b : ℕ) (bs : List ℕ) (o : Option (List ℕ × List ℕ)) (front back : List ℕ) → option_map (with_front b) o ≡ Some (front, back) → cut_behind b bs o front back
+some_parts : (b : ℕ) (bs : List ℕ) (o : Option (List ℕ × List ℕ)) (front back : List ℕ) → option_map (onto_name b) o ≡ Some (front, back) → cut_behind b bs o front back
 some_parts b bs None front back e = cc
 some_parts b bs (Some parts) front back e =
     let parted = some_pair_parts (b ∷ parts.0) front parts.1 back e in
@@ -27,7 +27,7 @@ begins (c ∷ bs) front back b e = sym (some_pair_parts [] front bs back (rw b a
 begins_not : (bs back : List ℕ) → begins_with 10 bs ≡ false → cut_at 10 bs ≡ Some ([], back) → ⊥
 begins_not [] back b e = cc
 begins_not (c ∷ bs) back b e =
-    let e' : option_map (with_front c) (cut_at 10 bs) ≡ Some ([], back) = rw b at e in
+    let e' : option_map (onto_name c) (cut_at 10 bs) ≡ Some ([], back) = rw b at e in
     let parts = some_parts c bs (cut_at 10 bs) [] back e' in
     nothing c bs (cut_at 10 bs) back parts
   where
@@ -88,13 +88,13 @@ none_begins (c ∷ cs) e = by_test (eqb c 10) refl
 none_behind : (b : ℕ) (bs : List ℕ) → cut_at 10 (b ∷ bs) ≡ None → (eqb b 10 ≡ false) × (cut_at 10 bs ≡ None)
 none_behind b bs e = by_test (eqb b 10) refl
   where
-    by_rest : (o : Option (List ℕ × List ℕ)) → option_map (with_front b) o ≡ None → o ≡ None
+    by_rest : (o : Option (List ℕ × List ℕ)) → option_map (onto_name b) o ≡ None → o ≡ None
     by_rest None h = refl
     by_rest (Some parts) h = cc
 
     by_test : (t : Bool) → eqb b 10 ≡ t → (eqb b 10 ≡ false) × (cut_at 10 bs ≡ None)
     by_test true yea = let e' : Some ([], bs) ≡ None = rw yea at e in cc
-    by_test false nay = let e' : option_map (with_front b) (cut_at 10 bs) ≡ None = rw nay at e in (nay, by_rest (cut_at 10 bs) e')
+    by_test false nay = let e' : option_map (onto_name b) (cut_at 10 bs) ≡ None = rw nay at e in (nay, by_rest (cut_at 10 bs) e')
 
 -- a text without LF is one line
 pub lines_one : (text : List ℕ) → 0 < length text → cut_at 10 text ≡ None → lines text ≡ text ∷ []

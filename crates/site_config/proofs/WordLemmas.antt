@@ -3,7 +3,7 @@ use Rattle.std.proofs.Common.{◌≡◌, ℕ, ◌<◌, Bool, true, false, List, 
 use Rattle.std.proofs.lemmas.Bool.{cases_Bool}
 use Rattle.std.specs.Option.{option_map}
 use Rattle.std.specs.List.{slice_split, onto_first}
-use Rattle.site_config.specs.Cut.{cut, with_front, is_separator}
+use Rattle.site_config.specs.Cut.{cut, onto_name, is_separator}
 use Rattle.site_config.specs.Names.{words, word_first}
 
 -- the parts that a cut after the first byte makes
@@ -11,7 +11,7 @@ abbrev pub SplitsSo : (ℕ → Bool) → List ℕ → Option (List ℕ × List �
 SplitsSo p text None = slice_split p text ≡ text ∷ []
 SplitsSo p text (Some parts) = slice_split p text ≡ parts.0 ∷ slice_split p parts.1
 
-one_more : (p : ℕ → Bool) (b : ℕ) (bs : List ℕ) (o : Option (List ℕ × List ℕ)) → p b ≡ false → SplitsSo p bs o → SplitsSo p (b ∷ bs) (option_map (with_front b) o)
+one_more : (p : ℕ → Bool) (b : ℕ) (bs : List ℕ) (o : Option (List ℕ × List ℕ)) → p b ≡ false → SplitsSo p bs o → SplitsSo p (b ∷ bs) (option_map (onto_name b) o)
 one_more p b bs None nay h = rw (nay, h) refl
 one_more p b bs (Some parts) nay h = rw (nay, h) refl
 
@@ -19,7 +19,7 @@ pub split_cut : (p : ℕ → Bool) (text : List ℕ) → SplitsSo p text (cut p 
 split_cut p [] = refl
 split_cut p (b ∷ bs) = by_test (split_cut p bs) (p b) refl
   where
-    by_test : SplitsSo p bs (cut p bs) → (t : Bool) → p b ≡ t → SplitsSo p (b ∷ bs) (cond t (Some ([], bs)) (option_map (with_front b) (cut p bs)))
+    by_test : SplitsSo p bs (cut p bs) → (t : Bool) → p b ≡ t → SplitsSo p (b ∷ bs) (cond t (Some ([], bs)) (option_map (onto_name b) (cut p bs)))
     by_test rest true yea = rw yea refl
     by_test rest false nay = one_more p b bs (cut p bs) nay rest
 

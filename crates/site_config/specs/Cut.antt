@@ -3,13 +3,13 @@ use Rattle.std.specs.Prelude.{ℕ, Bool, List, [], ◌∷◌, Option, Some, None
 use Rattle.std.specs.Option.{option_map}
 
 -- the byte goes before the first of the two parts
-abbrev pub with_front : ℕ → List ℕ × List ℕ → List ℕ × List ℕ
-with_front b parts = (b ∷ parts.0, parts.1)
+abbrev pub onto_name : ℕ → List ℕ × List ℕ → List ℕ × List ℕ
+onto_name b parts = (b ∷ parts.0, parts.1)
 
 -- the parts around the first byte that passes; none where no byte does
 abbrev pub cut : (ℕ → Bool) → List ℕ → Option (List ℕ × List ℕ)
 cut p [] = None
-cut p (b ∷ bs) = if p b then Some ([], bs) else option_map (with_front b) (cut p bs)
+cut p (b ∷ bs) = if p b then Some ([], bs) else option_map (onto_name b) (cut p bs)
 
 -- the parts around the first such byte
 abbrev pub cut_at : ℕ → List ℕ → Option (List ℕ × List ℕ)

@@ -7,7 +7,7 @@ use Rattle.std.proofs.lemmas.List.{drop-drop}
 use Rattle.std.proofs.lemmas.Option.{some_pair_parts, same_Some}
 use Rattle.std.specs.Option.{option_map, option_map_or, option_or, is_some}
 use Rattle.std.specs.Str.{bytes_eq}
-use Rattle.site_config.specs.Cut.{cut_at, with_front}
+use Rattle.site_config.specs.Cut.{cut_at, onto_name}
 use Rattle.site_mounts.specs.Patterns.{has_wildcard, stands_for, some_end, matches}
 use Rattle.site_mounts.specs.Pieces.{behind, first_behind}
 
@@ -20,21 +20,21 @@ found_so (Some rest) = refl
 star_none : (c : ℕ) (cs : List ℕ) → cut_at 42 (c ∷ cs) ≡ None → (eqb c 42 ≡ false) × (cut_at 42 cs ≡ None)
 star_none c cs e = by_test (eqb c 42) refl
   where
-    by_rest : (o : Option (List ℕ × List ℕ)) → option_map (with_front c) o ≡ None → o ≡ None
+    by_rest : (o : Option (List ℕ × List ℕ)) → option_map (onto_name c) o ≡ None → o ≡ None
     by_rest None h = refl
     by_rest (Some parts) h = cc
 
     by_test : (t : Bool) → eqb c 42 ≡ t → (eqb c 42 ≡ false) × (cut_at 42 cs ≡ None)
     by_test true yea = let e' : ◌≡◌ {A = Option (List ℕ × List ℕ)} (Some ([], cs)) None = rw yea at e in cc
-    by_test false nay = let e' : option_map (with_front c) (cut_at 42 cs) ≡ None = rw nay at e in (nay, by_rest (cut_at 42 cs) e')
+    by_test false nay = let e' : option_map (onto_name c) (cut_at 42 cs) ≡ None = rw nay at e in (nay, by_rest (cut_at 42 cs) e')
 
 -- the first star is after the first byte
 star_later : (c : ℕ) (cs front more : List ℕ) → eqb c 42 ≡ false → cut_at 42 (c ∷ cs) ≡ Some (front, more) → (f : List ℕ) × ((front ≡ c ∷ f) × (cut_at 42 cs ≡ Some (f, more)))
 star_later c cs front more nay e =
-    let e' : option_map (with_front c) (cut_at 42 cs) ≡ Some (front, more) = rw nay at e in
+    let e' : option_map (onto_name c) (cut_at 42 cs) ≡ Some (front, more) = rw nay at e in
     by_rest (cut_at 42 cs) refl e'
   where
-    by_rest : (o : Option (List ℕ × List ℕ)) → cut_at 42 cs ≡ o → option_map (with_front c) o ≡ Some (front, more) → (f : List ℕ) × ((front ≡ c ∷ f) × (cut_at 42 cs ≡ Some (f, more)))
+    by_rest : (o : Option (List ℕ × List ℕ)) → cut_at 42 cs ≡ o → option_map (onto_name c) o ≡ Some (front, more) → (f : List ℕ) × ((front ≡ c ∷ f) × (cut_at 42 cs ≡ Some (f, more)))
     by_rest None is h = cc
     by_rest (Some parts) is h =
         let parted = some_pair_parts (c ∷ parts.0) front parts.1 more h in

@@ -3,7 +3,7 @@ use Rattle.std.proofs.Common.{◌≡◌, ℕ, ◌<◌, Bool, true, false, List, 
 use Rattle.std.proofs.lemmas.Option.{some_pair_parts}
 use Rattle.std.specs.Option.{option_map}
 use Rattle.std.specs.List.{onto_first}
-use Rattle.site_config.specs.Cut.{cut_at, with_front}
+use Rattle.site_config.specs.Cut.{cut_at, onto_name}
 use Rattle.site_reports.specs.PathLines.{path_lines}
 
 -- the line before the first LF, and the lines after it
@@ -17,7 +17,7 @@ lines_cut (b ∷ bs) front back e = by_end (λ f k h. lines_cut bs f k h) (eqb b
     Behind : Type 0
     Behind = (f k : List ℕ) → cut_at 10 bs ≡ Some (f, k) → path_lines bs ≡ f ∷ path_lines k
 
-    by_rest : Behind → (o : Option (List ℕ × List ℕ)) → cut_at 10 bs ≡ o → option_map (with_front b) o ≡ Some (front, back) → eqb b 10 ≡ false → Goal
+    by_rest : Behind → (o : Option (List ℕ × List ℕ)) → cut_at 10 bs ≡ o → option_map (onto_name b) o ≡ Some (front, back) → eqb b 10 ≡ false → Goal
     by_rest behind None c e n = cc
     by_rest behind (Some parts) c e n =
         let parted = some_pair_parts (b ∷ parts.0) front parts.1 back e in
@@ -33,7 +33,7 @@ lines_cut (b ∷ bs) front back e = by_end (λ f k h. lines_cut bs f k h) (eqb b
 none_behind : (b : ℕ) (bs : List ℕ) → cut_at 10 (b ∷ bs) ≡ None → (eqb b 10 ≡ false) × (cut_at 10 bs ≡ None)
 none_behind b bs e = by_end (eqb b 10) refl
   where
-    by_rest : (o : Option (List ℕ × List ℕ)) → option_map (with_front b) o ≡ None → o ≡ None
+    by_rest : (o : Option (List ℕ × List ℕ)) → option_map (onto_name b) o ≡ None → o ≡ None
     by_rest None n = refl
     by_rest (Some parts) n = cc
 

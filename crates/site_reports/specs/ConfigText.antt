@@ -10,7 +10,7 @@ use Rattle.site_config.specs.declared.config.Status.{Status}
 use Rattle.site_config.specs.declared.config.Named.{Named}
 use Rattle.site_config.specs.declared.config.Named.TheVariants as named
 use Rattle.site_reports.specs.MemberLines.{member_text, names_of}
-use Rattle.site_reports.specs.Words.{method_letter, truth_digit}
+use Rattle.site_reports.specs.Words.{method_letter, flag}
 
 abbrev pub member_lines : Lb → List ℕ
 member_lines lb = flat_map (member_text (names_of lb.book.members)) (zip lb.book.members lb.ends)
@@ -18,7 +18,7 @@ member_lines lb = flat_map (member_text (names_of lb.book.members)) (zip lb.book
 -- the rules of an lb worker
 abbrev pub lb_words : Lb → List ℕ
 lb_words lb =
-    codes " lb " ++ method_letter lb.book.method ++ codes " sticky " ++ truth_digit lb.book.sticky ++ codes " force " ++ truth_digit lb.book.force
+    codes " lb " ++ method_letter lb.book.method ++ codes " sticky " ++ flag lb.book.sticky ++ codes " force " ++ flag lb.book.force
     ++ codes " recover " ++ decimal lb.book.recover ++ codes " cookie " ++ lb.cookie ++ codes " path " ++ lb.path ++ codes "\n"
 
 -- an lb worker's rules, and of a worker that is listed itself its type alone
@@ -29,7 +29,7 @@ abbrev pub balancer_lines : Lb → List ℕ
 balancer_lines lb = codes "worker " ++ lb.name ++ kind_words lb ++ member_lines lb
 
 abbrev pub status_line : Status → List ℕ
-status_line s = codes "worker " ++ s.name ++ codes " status read_only " ++ truth_digit s.read_only ++ codes "\n"
+status_line s = codes "worker " ++ s.name ++ codes " status read_only " ++ flag s.read_only ++ codes "\n"
 
 abbrev pub balancer_at : Option Lb → List ℕ
 balancer_at None = []

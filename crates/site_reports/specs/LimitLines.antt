@@ -2,7 +2,7 @@
 use Rattle.std.specs.Prelude.{ℕ, Bool, List, [], ◌++◌, Option, Some, None, codes, decimal, if◌then◌else◌, ◌||◌}
 use Rattle.std.specs.Option.{is_some}
 use Rattle.site_config.specs.declared.limits.MemberLimits.{MemberLimits}
-use Rattle.site_reports.specs.Words.{truth_digit}
+use Rattle.site_reports.specs.Words.{flag}
 
 -- a directive and its value, where it is set
 abbrev pub number_word : List ℕ → Option ℕ → List ℕ
@@ -11,7 +11,7 @@ number_word word (Some n) = word ++ decimal n
 
 abbrev pub truth_word : List ℕ → Option Bool → List ℕ
 truth_word word None = []
-truth_word word (Some truth) = word ++ truth_digit truth
+truth_word word (Some truth) = word ++ flag truth
 
 -- what is waited for a member
 abbrev pub wait_words : MemberLimits → List ℕ

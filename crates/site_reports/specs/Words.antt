@@ -16,5 +16,5 @@ activation_words activation.Active = codes " activation A"
 activation_words activation.Disabled = codes " activation D"
 activation_words activation.Stopped = codes " activation S"
 
-abbrev pub truth_digit : Bool → List ℕ
-truth_digit b = if b then codes "1" else codes "0"
+abbrev pub flag : Bool → List ℕ
+flag b = if b then codes "1" else codes "0"

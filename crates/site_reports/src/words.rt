@@ -1,6 +1,6 @@
 //! How single values are printed.
 ghost use Rattle.std.specs.Prelude.{◌≡◌, ◌++◌, OnOk, decimal};
-ghost use Rattle.site_reports.specs.Words.{activation_words, method_letter, truth_digit};
+ghost use Rattle.site_reports.specs.Words.{activation_words, method_letter, flag};
 
 use jk_io::{Bytes, NoMemory, put_decimal};
 use lb_model::{Activation, Method};
@@ -26,8 +26,8 @@ pub(crate) fn activation_words(activation: Activation) -> &'static [u8]
     }
 }
 
-pub(crate) fn truth_digit(truth: bool) -> &'static [u8]
-    ensures { result.now ≡ truth_digit truth }
+pub(crate) fn flag(truth: bool) -> &'static [u8]
+    ensures { result.now ≡ flag truth }
 {
     if truth { b"1" } else { b"0" }
 }
