@@ -7,7 +7,7 @@ ghost use Rattle.journal_text.specs.Lines.{balancer_words, beginning_words, entr
 use crate::line::{BalancerValues, Beginning, Line, MemberValues};
 use crate::names::put_name;
 use crate::words::{
-    activation_change, activation_word, flag, how_word, kind_word, method_word, put_long,
+    activation_change, activation_letter, flag, how_word, kind_word, method_letter, put_long,
     put_number, put_optional, put_redirect, put_short, put_state, put_word,
 };
 use jk_io::{Bytes, NoMemory};
@@ -129,7 +129,7 @@ pub fn put_entry(out: &mut Bytes, rules: u8, entry: &Entry) -> Result<(), NoMemo
 fn put_balancer_words(out: &mut Bytes, values: &BalancerValues) -> Result<(), NoMemory>
     ensures { OnOk result (out.new ≡ out.old ++ spaced (balancer_words values.now)) }
 {
-    put_word(out, method_word(values.method))?;
+    put_word(out, method_letter(values.method))?;
     put_word(out, flag(values.sticky))?;
     put_word(out, flag(values.force))?;
     put_word(out, flag(values.direct))?;
@@ -161,7 +161,7 @@ fn put_member_words(out: &mut Bytes, values: &MemberValues) -> Result<(), NoMemo
 {
     put_short(out, values.factor)?;
     put_short(out, values.distance)?;
-    put_word(out, activation_word(values.activation))?;
+    put_word(out, activation_letter(values.activation))?;
     put_standing(out, values)
 }
 

@@ -15,7 +15,7 @@ ghost use Rattle.site_reports.specs.ConfigText.{
 };
 
 use crate::member_line::put_member;
-use crate::words::{method_letter, put_number, put_text, truth_digit};
+use crate::words::{flag, method_letter, put_number, put_text};
 use jk_io::{Bytes, NoMemory};
 use site_config::{Config, IgnoredList, Lb, Named, Status, behind_worker};
 
@@ -33,8 +33,8 @@ fn put_lb_words(out: &mut Bytes, lb: &Lb) -> Result<(), NoMemory>
     ensures { OnOk result (out.new ≡ out.old ++ lb_words lb.now) }
 {
     put_text(out, b" lb ", method_letter(lb.book.method))?;
-    put_text(out, b" sticky ", truth_digit(lb.book.sticky))?;
-    put_text(out, b" force ", truth_digit(lb.book.force))?;
+    put_text(out, b" sticky ", flag(lb.book.sticky))?;
+    put_text(out, b" force ", flag(lb.book.force))?;
     put_number(out, b" recover ", lb.book.recover)?;
     put_text(out, b" cookie ", lb.cookie.as_slice())?;
     put_text(out, b" path ", lb.path.as_slice())?;
@@ -62,7 +62,7 @@ fn put_status(out: &mut Bytes, status: &Status) -> Result<(), NoMemory>
     ensures { OnOk result (out.new ≡ out.old ++ status_line status.now) }
 {
     put_text(out, b"worker ", status.name.as_slice())?;
-    put_text(out, b" status read_only ", truth_digit(status.read_only))?;
+    put_text(out, b" status read_only ", flag(status.read_only))?;
     out.extend(b"\n")
 }
 

@@ -2,7 +2,7 @@
 ghost use Rattle.std.specs.Prelude.{◌≡◌, ◌++◌, OnOk};
 ghost use Rattle.site_reports.specs.LimitLines.{limits_line, link_words, number_word, sets_some, sets_wait, truth_word, wait_words};
 
-use crate::words::{put_number, put_text, truth_digit};
+use crate::words::{flag, put_number, put_text};
 use jk_io::{Bytes, NoMemory};
 use site_config::MemberLimits;
 
@@ -21,7 +21,7 @@ fn put_set_truth(out: &mut Bytes, word: &[u8], value: Option<bool>) -> Result<()
     ensures { OnOk result (out.new ≡ out.old ++ truth_word word.now value) }
 {
     match value {
-        Some(truth) => put_text(out, word, truth_digit(truth)),
+        Some(truth) => put_text(out, word, flag(truth)),
         None => Ok(()),
     }
 }
