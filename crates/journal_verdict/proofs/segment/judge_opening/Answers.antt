@@ -1,5 +1,9 @@
+use Rattle.journal_text.proofs.SegmentProps.{opening_valid}
 use Rattle.journal_verdict.proofs.SegmentFacts.{judges_opening}
 use Rattle.journal_verdict.proofs.segment.judge_opening.Goals as goal
+
+pub first_difference-requires-clause-valid : goal.first_difference-requires-clause-valid
+first_difference-requires-clause-valid c = opening_valid c.args.counted.now.segment
 
 pub returns-in-Some : goal.returns-in-Some
 returns-in-Some c =
