@@ -8,6 +8,7 @@ pub mod RoundLaws
 pub mod EndLaws
 pub mod ExchangeLaws
 pub mod GrowLaws
+pub mod AwaitLaws
 pub mod EarlyLaws
 pub mod CauseLaws
 pub mod ClientLaws

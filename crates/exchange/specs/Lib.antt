@@ -12,3 +12,4 @@ pub mod Deliveries
 pub mod Steps
 pub mod Means
 pub mod Keeping
+pub mod Awaits

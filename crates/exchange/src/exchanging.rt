@@ -1,4 +1,5 @@
 //! `exchange_of`: a request, from the first piece of its body to what its client has.
+ghost use Rattle.exchange.specs.Awaits.{AwaitsSides};
 ghost use Rattle.exchange.specs.Clients.{GivesClient, MeetsThere};
 ghost use Rattle.exchange.specs.Complete.{Completes};
 ghost use Rattle.exchange.specs.Exchanges.{InEachExchange, IsExchange, NotesTalks, StaysCalm, UsesFront};
@@ -49,6 +50,10 @@ where
     // A stray was met where it is the end, and there alone; the client's count of faults stands, unless it or a stray is the end.
     ensures met { InEachExchange (errand_of request.now) result MeetsThere }
     ensures calm { InEachExchange (errand_of request.now) result StaysCalm }
+
+    // The client is told before its body is read that more of it is waited for, and the reach before each talk how long a dial
+    // of the member may take.
+    ensures awaits { AwaitsSides R.Meanings R.heard C.heard request.now means.old means.new }
 
     // Desk, clock and sides are still the caller's own, and each lease went back.
     ensures kept { KeepsMeans B.state R.Meanings C.Meanings request.now means.old means.new }

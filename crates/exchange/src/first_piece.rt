@@ -2,6 +2,7 @@
 ghost use Rattle.std.specs.Prelude.{◌≡◌, ◌≢◌, ◌≤◌, IfOk, IfErr, OnOk};
 ghost use Rattle.ajp_talk.specs.Moments.{IsUsed};
 ghost use Rattle.forwarding.specs.FirstPiece.{first_len as first_length};
+ghost use Rattle.exchange.specs.Awaits.{HearsNext};
 ghost use Rattle.exchange.specs.FirstPiece.{IsFirstFailure, TakesFirst, body_left, end_by};
 ghost use Rattle.exchange.specs.Exchanges.{IsCalmExchange};
 ghost use Rattle.exchange.specs.Keeping.{IsAllLeft};
@@ -36,7 +37,7 @@ pub(crate) fn take_first<C: Link>(
     ensures no_fewer { C.faults client.old ≤ C.faults client.new }
 
     // Before a piece is read, the client is told that more of a body is waited for.
-    ensures awaits { first_length plan ends.now ≢ 0 → (after : C) × C.heard client.old Awaited.Body after }
+    ensures awaits { first_length plan ends.now ≢ 0 → HearsNext C.heard client.old Awaited.Body }
 {
     let len = first_len(plan, ends);
     if len == 0 {

@@ -5,9 +5,9 @@
 //! Own rules: what another talk and another round rest on, the outcome of a lease, the first piece (docs/DECISIONS.md).
 //! Shapes: talks and rounds are listed with the newest first; a member is its place in its balancer; what is known between
 //! two talks is an `Around`, and with the desk and the clock a `Scene`.
-//! Contract: `exchange_of`, clauses `exchange`, `client`, `whole_once`, `complete` and `met`. Read first: specs/Exchanges.antt, then
-//! specs/Rounds.antt, specs/Talks.antt, specs/OneTalk.antt and specs/Clients.antt; specs/Steps.antt has the steps that an
-//! exchange is made of.
+//! Contract: `exchange_of`, clauses `exchange`, `client`, `whole_once`, `complete`, `met` and `awaits`. Read first:
+//! specs/Exchanges.antt, then specs/Rounds.antt, specs/Talks.antt, specs/OneTalk.antt and specs/Clients.antt; specs/Steps.antt has
+//! the steps that an exchange is made of.
 //! Errors: none; each end is an `ExchangeEnd`, and want of memory is one of them.
 #![tactic(auto)]
 

@@ -1,6 +1,7 @@
 //! One talk with a member: a link is had, the talk is held on it, and the link is kept or closed.
 ghost use Rattle.std.specs.Prelude.{◌≡◌};
 ghost use Rattle.ajp_talk.specs.Ends.{IsPlan};
+ghost use Rattle.exchange.specs.Awaits.{HearsNext};
 ghost use Rattle.exchange.specs.Keeping.{KeepsSides, MayTalk};
 ghost use Rattle.exchange.specs.Means.{around_of};
 ghost use Rattle.exchange.specs.OneTalk.{IsOneTalk, IsPlanOf, dial_for, keeps as keeps_link, no_link as end_without_link, pings as pings_first, pong_limit as pong_limit_for};
@@ -30,7 +31,7 @@ pub(crate) fn one_talk<R: Reach, C: Link>(
     ensures kept { KeepsSides R.Meanings C.Meanings sides.old sides.new }
 
     // Before it begins, the reach is told how long a dial of this member may take.
-    ensures awaits { (after : R) × R.heard sides.old.reach.now (dial_for to.now.endpoint.now) after }
+    ensures awaits { HearsNext R.heard sides.old.reach.now (dial_for to.now.endpoint.now) }
 {
     let endpoint = to.endpoint;
     sides.reach.await_next(dial_of(endpoint));

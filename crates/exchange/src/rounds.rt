@@ -1,6 +1,7 @@
 //! One round: the desk is asked, talks are held, the lease goes back.
 ghost use Rattle.std.specs.Prelude.{◌≡◌, ◌≤◌, ◌<◌, true, length, IfSome, IfOk, IfErr};
 ghost use Rattle.lb_book.specs.Desks.{Chooses, KeepsDesk, holds, pair_of};
+ghost use Rattle.exchange.specs.Awaits.{AwaitsRounds};
 ghost use Rattle.exchange.specs.Requests.{ask_for, errand_of};
 ghost use Rattle.exchange.specs.Keeping.{KeepsMeans, MayAsk, TookFirst};
 ghost use Rattle.exchange.specs.Means.{scene_of};
@@ -88,6 +89,7 @@ where
     ensures step { let at = scene_of B.state K.answers R.Meanings C.Meanings in
         IsStep (errand_of request.now) first.now ask.now.tried fresh (at means.old) (at means.new) result }
     ensures kept { KeepsMeans B.state R.Meanings C.Meanings request.now means.old means.new }
+    ensures awaits { AwaitsRounds R.Meanings R.heard request.now means.old means.new }
 {
     let at = means.clock.now();
     let (member, lease) = match chosen(request, ask, at, means.desk) {

@@ -1,6 +1,7 @@
 //! The talks of one round.
 ghost use Rattle.std.specs.Prelude.{◌≡◌, ◌+◌, ◌≤◌, length, min};
 ghost use Rattle.forwarding.specs.FirstPiece.{piece_for};
+ghost use Rattle.exchange.specs.Awaits.{AwaitsMember};
 ghost use Rattle.exchange.specs.Keeping.{KeepsSides, MayTalk};
 ghost use Rattle.exchange.specs.Means.{around_of};
 ghost use Rattle.exchange.specs.Requests.{errand_of};
@@ -42,6 +43,9 @@ pub(crate) fn run_talks<R: Reach, C: Link>(
     ensures ran { let at = around_of R.Meanings C.Meanings in
         HasRun (errand_of request.now) first.now to.now.member to.now.config.now to.now.endpoint.now fresh (at sides.old) (at sides.new) result }
     ensures kept { KeepsSides R.Meanings C.Meanings sides.old sides.new }
+
+    // Before each talk the reach is told how long a dial of the member may take.
+    ensures awaits { AwaitsMember R.Meanings R.heard request.now to.now sides.old.reach.now sides.new.reach.now }
 {
     let mut plan = match plan_for(alloc, request, first, to.config, to.endpoint) {
         Ok(plan) => plan,

@@ -1,8 +1,9 @@
 -- The first piece was taken and rounds were gone through; or there was none. Each exit is one of the ends of an exchange.
 use Rattle.ajp_wire.specs.Moments.{link_at}
-use Rattle.std.proofs.Common.{ℕ, List, slice_index, refl, sym, ap, ◌∙◌, arith}
+use Rattle.std.proofs.Common.{ℕ, List, slice_index, inl, inr, refl, sym, ap, ◌∙◌, arith}
 use Rattle.lb_model.specs.declared.ask.Ask.{Ask}
 use Rattle.exchange.specs.Requests.{ask_for, errand_of}
+use Rattle.exchange.proofs.AwaitLaws.{awaits_none, awaits_twice}
 use Rattle.exchange.proofs.CalmLaws.{calm_at}
 use Rattle.exchange.proofs.CauseLaws.{met_at}
 use Rattle.exchange.proofs.ClientLaws.{gives}
@@ -25,6 +26,7 @@ pub loop-member-init : goal.loop-member-init
 loop-member-init g c = record {
   way = begins _ _ _ _ c.in-Ok.ensures;
   kept = means_untouched _ _ _ _ _ c.requires.may.idle;
+  awaits = λ lbs stands. awaits_none _ _ _ _ _ refl;
 }
 
 pub one_round-requires-clause-ask : goal.one_round-requires-clause-ask
@@ -65,6 +67,7 @@ loop-member-preserved g c = record {
   way = searches_on _ _ _ _ _ _ _ _ _ c.loop-member.invariant.way c.in-Again.ensures.step
       (ap (λ (t : ℕ). record c.loop-member.ask { tried = t }) c.with_member.ensures);
   kept = means_twice _ _ _ _ _ _ _ c.loop-member.invariant.kept c.in-Again.ensures.kept;
+  awaits = λ lbs stands. awaits_twice _ _ _ _ _ _ (c.loop-member.invariant.awaits lbs stands) (c.in-Again.ensures.awaits lbs stands);
 }
 
 pub loop-member-smaller : goal.loop-member-smaller
@@ -249,3 +252,26 @@ returns-in-Err-take_first-clause-noted g c = λ s n did. exchange_grows _ s n _ 
 
 pub returns-in-Err-clause-noted : goal.returns-in-Err-clause-noted
 returns-in-Err-clause-noted g c = λ s n did. exchange_grows _ s n _ did
+
+-- ---- what was waited for
+
+pub returns-in-Answer-clause-awaits : goal.returns-in-Answer-clause-awaits
+returns-in-Answer-clause-awaits g c = record {
+  body = λ some. inr (c.take_first.ensures.awaits some);
+  dials = λ lbs stands. awaits_twice _ _ _ _ _ _ (c.loop-member.invariant.awaits lbs stands) (c.in-Answer.ensures.awaits lbs stands);
+}
+
+pub returns-in-End-clause-awaits : goal.returns-in-End-clause-awaits
+returns-in-End-clause-awaits g c = record {
+  body = λ some. inr (c.take_first.ensures.awaits some);
+  dials = λ lbs stands. awaits_twice _ _ _ _ _ _ (c.loop-member.invariant.awaits lbs stands) (c.in-End.ensures.awaits lbs stands);
+}
+
+pub returns-in-Err-take_first-clause-awaits : goal.returns-in-Err-take_first-clause-awaits
+returns-in-Err-take_first-clause-awaits g c = record {
+  body = λ some. inr (c.take_first.ensures.awaits some);
+  dials = λ lbs stands. awaits_none _ _ _ _ _ refl;
+}
+
+pub returns-in-Err-clause-awaits : goal.returns-in-Err-clause-awaits
+returns-in-Err-clause-awaits g c = record { body = λ some. inl refl; dials = λ lbs stands. awaits_none _ _ _ _ _ refl }

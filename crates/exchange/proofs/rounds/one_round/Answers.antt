@@ -4,6 +4,7 @@ use Rattle.lb_book.proofs.DeskLaws.{held_made}
 use Rattle.lb_book.specs.Desks.{pair_of}
 use Rattle.exchange.specs.Means.{around_of}
 use Rattle.exchange.specs.Requests.{errand_of}
+use Rattle.exchange.proofs.AwaitLaws.{awaits_none}
 use Rattle.exchange.proofs.DeskLaws.{after_none}
 use Rattle.exchange.proofs.KeepingLaws.{sides_untouched, spent_desk, spent_held}
 use Rattle.exchange.proofs.RoundLaws.{no_lease, none_held, told_at_most, went_back}
@@ -83,3 +84,9 @@ returns-in-Err-clause-kept g c = record {
   clock = refl;
   sides = sides_untouched _ _ _ c.requires.may.idle;
 }
+
+pub returns-clause-awaits : goal.returns-clause-awaits
+returns-clause-awaits g c = λ lbs stands. c.run_talks-ran.ensures.awaits (rw c.target_of-to.ensures.member c.target_of-to.ensures.endpoint) lbs stands
+
+pub returns-in-Err-clause-awaits : goal.returns-in-Err-clause-awaits
+returns-in-Err-clause-awaits g c = λ lbs stands. awaits_none _ _ _ _ _ refl

@@ -1,5 +1,6 @@
 -- Talks failed, and another one is to follow; the talks that are left run out.
 use Rattle.ajp_talk.specs.Ends.{IsPlan}
+use Rattle.exchange.specs.Awaits.{AwaitsMember}
 use Rattle.exchange.specs.Keeping.{KeepsSides, MayTalk}
 use Rattle.exchange.specs.Means.{around_of}
 use Rattle.exchange.specs.Requests.{errand_of, plan_for}
@@ -14,6 +15,7 @@ invariant-loop-end g l = record {
   plan : IsPlan l.plan;
   may : MayTalk g.R.Meanings l.request.lb l.to.member l.plan.first l.sides;
   kept : KeepsSides g.R.Meanings g.C.Meanings l.fn.sides l.sides;
+  awaits : AwaitsMember g.R.Meanings g.R.Link.heard l.request l.to l.fn.sides.reach.now l.sides.reach.now;
 }
 
 abbrev pub decreases-loop-end : goal.decreases-loop-end
