@@ -11,6 +11,7 @@ pub mod DecideLaws
 pub mod PartsLaws
 pub mod CompleteLaws
 pub mod WayLaws
+pub mod AwaitLaws
 pub mod SurroundingsLaws
 pub mod NameLaws
 pub mod KeepingLaws

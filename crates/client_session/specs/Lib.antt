@@ -16,3 +16,4 @@ pub mod Complete
 pub mod Surroundings
 pub mod Keeping
 pub mod Whole
+pub mod Awaits

@@ -52,6 +52,10 @@ IsRequestAnswered i s n body body' settled = IsAnswer (visit_in i) i.head.now i.
 abbrev pub IsAnsweredAt : Inquiry → (s n : ClientStanding) → (body body' : BodyIn) → Settled → Type 0
 IsAnsweredAt i s n body body' settled = IsAnswerAt (visit_in i) i.head.now i.last s n body body' settled.answered (rows_of settled.row)
 
+-- So of a status worker's request, whose body is left as it is, whichever it is.
+abbrev pub IsShownAt : Inquiry → (s n : ClientStanding) → Settled → Type 0
+IsShownAt i s n settled = (body : BodyIn) → IsAnsweredAt i s n body body settled
+
 -- These rows were put where rows are put, which was so and is so now: `PutIn W.gained rows.old rows.new`.
 abbrev pub PutIn : {W : Type 0} → (W → List Served → W → Type 0) → (old new : W) → List Served → Type 0
 PutIn gained old new = λ rows. gained old rows new

@@ -2,7 +2,6 @@
 ghost use Rattle.std.specs.Prelude.{◌≡◌, ◌≤◌, ◌<◌, true, Some, IfErr, IfOk, MatchResult, length, slice_get, vec_capacity};
 ghost use Rattle.std.specs.List.{All};
 ghost use Rattle.lb_model.specs.declared.member.MemberConfig.{MemberConfig as AnyMember};
-ghost use Rattle.http_front.specs.declared.body.BodyIn.{BodyIn as AnyBody};
 ghost use Rattle.site_mounts.specs.Sites.{is_worker};
 ghost use Rattle.site_config.specs.declared.config.Named.TheVariants as named_is;
 ghost use Rattle.exchange.specs.Requests.{errand_of};
@@ -12,7 +11,7 @@ ghost use Rattle.client_session.specs.Keeping.{IsShown, TellsAnswer};
 ghost use Rattle.client_session.specs.Ready.{IsReady};
 ghost use Rattle.client_session.specs.Requests.{IsNewBody, continue_for, mounted_at, visit_in, visit_of};
 ghost use Rattle.client_session.specs.Standings.{IsClientStep, Puts};
-ghost use Rattle.client_session.specs.Surroundings.{IsRequestAnswered, IsAnsweredAt};
+ghost use Rattle.client_session.specs.Surroundings.{IsAnsweredAt, IsRequestAnswered, IsShownAt};
 ghost use Rattle.client_session.specs.Turns.{LeavesBodySound};
 ghost use Rattle.client_session.specs.Writing.{BreaksOff, WritesPart};
 
@@ -120,7 +119,7 @@ where
     requires worker { lb < length of.now.site.now.cfg.now.lbs }
     requires fresh { IsNewBody of.now.head.now.plan body.old }
     requires room { HasRowRoom of.now.site.now.cfg.now (named_is.Balancer lb) of.now.head.now row }
-    ensures answer { TellsAnswer B.state K.answers R.Meanings C.Meanings (visit_of of.now.site.now) result.answered around.old around.new
+    ensures answer { TellsAnswer B.state K.answers R.Meanings R.heard C.Meanings of.now around.old around.new result
         (λ s n. IsAnsweredAt of.now s n body.old body.new result) }
     ensures going { LeavesBodySound result.answered body.new }
 {
@@ -170,8 +169,8 @@ where
     requires mounted { mounted_at (visit_in of.now) of.now.head.now ≡ Some (named_is.Status place) }
     requires worker { place < length of.now.site.now.cfg.now.statuses }
     requires room { HasRowRoom of.now.site.now.cfg.now (named_is.Status place) of.now.head.now row }
-    ensures { TellsAnswer B.state K.answers R.Meanings C.Meanings (visit_of of.now.site.now) result.answered around.old around.new
-        (λ s n. (body : AnyBody) → IsAnsweredAt of.now s n body body result) }
+    ensures { TellsAnswer B.state K.answers R.Meanings R.heard C.Meanings of.now around.old around.new result
+        (λ s n. IsShownAt of.now s n result) }
 {
     let status = &of.site.cfg.statuses.as_slice()[place as usize];
     let answer = serve_status(alloc, of, status, around);
@@ -231,7 +230,7 @@ where
     B::Shown: Drop,
     requires ready { IsReady (visit_of of.now.site.now) (B.state around.old.desk.now) (R.beside around.old.reach.now) }
     requires fresh { IsNewBody of.now.head.now.plan body.old }
-    ensures answer { TellsAnswer B.state K.answers R.Meanings C.Meanings (visit_of of.now.site.now) result.answered around.old around.new
+    ensures answer { TellsAnswer B.state K.answers R.Meanings R.heard C.Meanings of.now around.old around.new result
         (λ s n. IsRequestAnswered of.now s n body.old body.new result) }
     ensures going { LeavesBodySound result.answered body.new }
 {

@@ -5,8 +5,9 @@
 //! connector makes itself (docs/DECISIONS.md; docs/FORMATS.md, "Replies to a client").
 //! Shapes: what is known between two steps is a `ClientStanding`; a request leads from one to the next.
 //! Contract: `serve_session`: `session`, all requests and the end, the client's bytes and the rows, and what is kept;
-//! `each`, what follows of each session that ends so; `idle_only`. Read first: specs/Whole.antt, then specs/Sessions.antt and
-//! specs/Answers.antt over specs/Standings.antt; then Parts, Causes and Complete. status_worker has what a status worker is asked.
+//! `each`, what follows of each session that ends so; `awaits` and `dials`, what is waited for; `idle_only`. Read first:
+//! specs/Whole.antt, then specs/Sessions.antt and specs/Answers.antt over specs/Standings.antt; then Parts, Causes and Complete.
+//! status_worker has what a status worker is asked.
 //! Errors: none; each end is a `SessionEnd`, and want of memory is one of them.
 #![tactic(auto)]
 

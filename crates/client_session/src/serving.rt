@@ -1,13 +1,15 @@
 //! `serve_session`: all requests of one client.
 ghost use Rattle.std.specs.Prelude.{◌≡◌, ◌<◌, [], true, false};
 ghost use Rattle.http_front.specs.Takes.{body_at};
+ghost use Rattle.exchange.specs.Awaits.{HearsNext};
+ghost use Rattle.client_session.specs.Awaits.{AwaitsRequests, DialsInTime};
 ghost use Rattle.client_session.specs.Concluding.{rows_of};
 ghost use Rattle.client_session.specs.Finishing.{Finishes, RefusesHead, StopsWithoutHead, TurnsAfter, stop_after};
-ghost use Rattle.client_session.specs.Keeping.{TellsTurn};
+ghost use Rattle.client_session.specs.Keeping.{TellsHead, TellsRequest};
 ghost use Rattle.client_session.specs.Ready.{IsReady};
 ghost use Rattle.client_session.specs.Requests.{refused_kind as refused_kind_of, visit_of};
 ghost use Rattle.client_session.specs.Standings.{IsClientStep};
-ghost use Rattle.client_session.specs.Surroundings.{PutIn, TurnsFrom, TurnsNow};
+ghost use Rattle.client_session.specs.Surroundings.{PutIn, standing_with};
 ghost use Rattle.client_session.specs.Whole.{HoldsOfEach, IsWholeSession};
 
 use crate::answering::answer;
@@ -95,8 +97,8 @@ where
     B::Shown: Drop,
     requires ready { IsReady (visit_of site.now) (B.state around.old.desk.now) (R.beside around.old.reach.now) }
     requires number { number < MAX_REQUESTS }
-    ensures { TellsTurn B.state K.answers R.Meanings C.Meanings (visit_of site.now) number result around.old around.new
-        (λ s n. TurnsFrom (visit_of site.now) number head.now s n (PutIn W.gained rows.old rows.new) result) }
+    ensures { TellsHead B.state K.answers R.Meanings R.heard C.Meanings site.now number head.now around.old around.new
+        (PutIn W.gained rows.old rows.new) result }
 {
     let date = moment_of(site.dated, around.clock);
     let mut body = BodyIn::new(head.plan, MAX_BODY_BYTES);
@@ -177,11 +179,11 @@ where
     B::Shown: Drop,
     requires ready { IsReady (visit_of site.now) (B.state around.old.desk.now) (R.beside around.old.reach.now) }
     requires number { number < MAX_REQUESTS }
-    ensures turn { TellsTurn B.state K.answers R.Meanings C.Meanings (visit_of site.now) number result around.old around.new
-        (λ s n. TurnsNow (visit_of site.now) number s n (PutIn W.gained rows.old rows.new) result) }
+    ensures turn { TellsRequest B.state K.answers R.Meanings R.heard C.Meanings site.now number around.old around.new
+        (PutIn W.gained rows.old rows.new) result }
 
     // Before a byte of it is read, the client is told that its next request is waited for.
-    ensures awaits { (after : C) × C.heard around.old.client.now Awaited.Client after }
+    ensures awaits { HearsNext C.heard around.old.client.now Awaited.Client }
 {
     around.client.await_next(Awaited::Client);
     match read_head(alloc, around.inbox, around.client) {
@@ -221,6 +223,11 @@ where
     ensures session { IsWholeSession B.state K.answers R.Meanings C.Meanings (visit_of site.now) around.old around.new
         (PutIn W.gained rows.old rows.new) result }
     ensures each { HoldsOfEach (visit_of site.now) result }
+
+    // Before each request the client is told that it is waited for, and before each talk the reach how long its dial may take.
+    ensures awaits { let at = standing_with B.state K.answers R.Meanings C.Meanings in
+        AwaitsRequests C.Meanings C.heard (visit_of site.now) (at around.old) (at around.new) result }
+    ensures dials { DialsInTime R.Meanings R.heard site.now around.old around.new }
 
     // A client that is left while it waits is one whose reads may wait.
     ensures idle_only { result.stop ≡ SessionStop.Closed Why.Idle → C.may_wait ≡ true }

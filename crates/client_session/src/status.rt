@@ -33,6 +33,7 @@ where
         Shows of.now status.now (at around.old) (at around.new) result }
     ensures met { MeetsNone (B.state around.old.desk.now) (B.state around.new.desk.now) }
     ensures kept { KeepsAround B.state R.Meanings C.Meanings (visit_of of.now.site.now) around.old around.new }
+    ensures same_reach { around.new.reach.now ≡ around.old.reach.now }
 {
     let asked = PageRequest {
         cfg: of.site.cfg,

@@ -1,5 +1,6 @@
 -- The request came to its end before a worker was asked.
 use Rattle.std.proofs.Common.{◌≡◌, None, Some, refl, rules}
+use Rattle.exchange.proofs.AwaitLaws.{awaits_none}
 use Rattle.status_worker.proofs.DeskLaws.{untouched}
 use Rattle.client_session.specs.Requests.{continue_for, mounted_at, visit_in}
 use Rattle.client_session.specs.Standings.{client_at, standing}
@@ -22,6 +23,7 @@ returns-in-Err-clause-answer g c =
       fault = rises_early (continue_for c.args.of.now.head.now) (client_at g.C.Meanings c.args.around.now.client.now) (client_at g.C.Meanings c.begin.new.client) c.in-Err.stop
           c.stopped.result broken c.stopped.ensures;
       kept = keeps_by _ _ _ _ _ _ c.requires.ready (untouched _ _) refl refl c.begin.ensures.told.kept (refl, refl, refl, refl, refl);
+      dials = awaits_none _ _ _ _ _ refl;
     }
 
 pub returns-in-Err-clause-going : goal.returns-in-Err-clause-going
@@ -39,6 +41,7 @@ returns-in_default-clause-answer g c =
       met = not_found_meets (visit_in c.args.of.now) c.args.of.now.head.now (client_at g.C.Meanings c.args.around.now.client.now) (client_at g.C.Meanings c.not_found.new.client) c.not_found.result _ found;
       fault = not_found_rises (visit_in c.args.of.now) c.args.of.now.head.now (client_at g.C.Meanings c.args.around.now.client.now) (client_at g.C.Meanings c.not_found.new.client) c.not_found.result found;
       kept = keeps_by _ _ _ _ _ _ c.requires.ready (untouched _ _) refl refl c.not_found.ensures.kept (refl, refl, refl, refl, refl);
+      dials = awaits_none _ _ _ _ _ refl;
     }
 
 pub returns-in_default-clause-going : goal.returns-in_default-clause-going
@@ -68,6 +71,7 @@ returns-in-Balancer-clause-answer g c =
       kept = keeps_twice _ _ _ _ _ _ _
           (keeps_by _ _ _ _ _ _ c.requires.ready (untouched _ _) refl refl c.begin.ensures.told.kept (refl, refl, refl, refl, refl))
           told.kept;
+      dials = told.dials;
     }
 
 pub returns-in-Balancer-clause-going : goal.returns-in-Balancer-clause-going
@@ -87,6 +91,7 @@ returns-in-Status-clause-answer g c =
       kept = keeps_twice _ _ _ _ _ _ _
           (keeps_by _ _ _ _ _ _ c.requires.ready (untouched _ _) refl refl c.begin.ensures.told.kept (refl, refl, refl, refl, refl))
           told.kept;
+      dials = told.dials;
     }
 
 pub returns-in-Status-clause-going : goal.returns-in-Status-clause-going

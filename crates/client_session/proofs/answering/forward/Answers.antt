@@ -105,5 +105,6 @@ returns g c =
           client_faults = rw client x.kept.sides.client_faults;
           same = (refl, refl, refl, refl, refl);
         };
+        dials = rw reach (x.awaits.dials c.args.of.now.site.now.cfg.now.lbs (rw q.lb q.balancer));
       };
     }

@@ -1,4 +1,6 @@
 -- The page was shown, or an own answer took its place, or nothing whole was written.
+use Rattle.std.proofs.Common.{ap}
+use Rattle.exchange.proofs.AwaitLaws.{awaits_none}
 use Rattle.client_session.specs.Requests.{visit_in}
 use Rattle.client_session.proofs.AnswerLaws.{at_status}
 use Rattle.client_session.proofs.KeepingLaws.{room_for_status, shown_answers, shown_known, shown_meets, shown_rises}
@@ -30,4 +32,5 @@ returns g c =
       fault = shown_rises (visit_in c.args.of.now) c.args.of.now.head.now c.args.of.now.last _ _ c.index-as_slice-place.result c.serve_status-answer.result _ c.shown.result
           c.serve_status-answer.ensures.answer is;
       kept = c.serve_status-answer.ensures.kept;
+      dials = awaits_none _ _ _ _ _ (ap (λ r. (g.R.Meanings.beside r).talks) c.serve_status-answer.ensures.same_reach);
     }

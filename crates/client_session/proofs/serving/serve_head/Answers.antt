@@ -1,6 +1,7 @@
 -- The request's turn: it ends the session, or the rest of its body was read.
 use Rattle.std.proofs.Common.{refl, sym, ◌∙◌}
 use Rattle.http_front.specs.Takes.{body_at}
+use Rattle.exchange.proofs.AwaitLaws.{awaits_none}
 use Rattle.status_worker.proofs.DeskLaws.{none_met, untouched}
 use Rattle.client_session.specs.Requests.{visit_at, visit_of}
 use Rattle.client_session.specs.Standings.{client_at, standing}
@@ -31,6 +32,7 @@ returns-in_default g c =
       met = none_met _;
       fault = refl;
       kept = keeps_by _ _ _ _ _ _ c.requires.ready (untouched _ _) refl refl (keeps_still g.C.Meanings _) (refl, refl, refl, refl, refl);
+      dials = awaits_none _ _ _ _ _ refl;
     }
 
 pub returns : goal.returns
@@ -60,6 +62,7 @@ returns g c =
           keeps_twice _ _ _ _ _ c.answer-answered.new.around _
           (record { ready = k.ready; kept = k.kept; beside = k.beside; reach_faults = k.reach_faults; client_faults = k.client_faults; same = k.same })
           (keeps_by _ _ _ _ _ _ k.ready (untouched _ _) refl refl after.kept (refl, refl, refl, refl, refl));
+      dials = told.dials;
     }
 
 pub answer-answered-requires-clause-ready : goal.answer-answered-requires-clause-ready

@@ -4,6 +4,7 @@ use Rattle.client_session.specs.Requests.{visit_at, visit_of}
 use Rattle.client_session.specs.Standings.{client_at, standing}
 use Rattle.client_session.specs.Surroundings.{standing_of}
 use Rattle.client_session.specs.declared.turn.SessionTurn.TheVariants as turn
+use Rattle.exchange.proofs.AwaitLaws.{awaits_none}
 use Rattle.status_worker.proofs.DeskLaws.{none_met, untouched}
 use Rattle.client_session.proofs.KeepingLaws.{keeps_by, keeps_twice}
 use Rattle.client_session.proofs.SessionLaws.{ends_by_client, meets_without_head, rises_without_head, without_head}
@@ -31,6 +32,7 @@ returns-in-Ok-Head-clause-turn g c =
           (record { beside = c.read_head.ensures.same.1 ∙ c.await_next.ensures.same.0; no_fewer = omega (arith, c.read_head.ensures.no_fewer, c.await_next.ensures.same.1) })
           (refl, refl, refl, refl, refl))
           told.kept;
+      dials = told.dials;
     }
 
 pub returns-in-Ok-End-clause-turn : goal.returns-in-Ok-End-clause-turn
@@ -51,6 +53,7 @@ returns-in-Ok-End-clause-turn g c = record {
   kept = keeps_by _ _ _ _ _ _ c.requires.ready (untouched _ _) refl refl
       (record { beside = c.read_head.ensures.same.1 ∙ c.await_next.ensures.same.0; no_fewer = omega (arith, c.read_head.ensures.no_fewer, c.await_next.ensures.same.1) })
       (refl, refl, refl, refl, refl);
+  dials = awaits_none _ _ _ _ _ refl;
 }
 
 pub returns-in-Err-clause-turn : goal.returns-in-Err-clause-turn
@@ -105,6 +108,7 @@ returns-in-Err-clause-turn g c =
           (record { beside = c.read_head.ensures.same.1 ∙ c.await_next.ensures.same.0; no_fewer = omega (arith, c.read_head.ensures.no_fewer, c.await_next.ensures.same.1) })
           c.stop_without_head.ensures.kept)
           (refl, refl, refl, refl, refl);
+      dials = awaits_none _ _ _ _ _ refl;
     }
 
 pub serve_head-requires-clause-ready : goal.serve_head-requires-clause-ready

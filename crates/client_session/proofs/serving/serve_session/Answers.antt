@@ -4,6 +4,8 @@ use Rattle.status_worker.proofs.DeskLaws.{none_met, none_twice, untouched}
 use Rattle.jk_io.specs.Moments.{Moment}
 use Rattle.client_session.specs.declared.ending.SessionStop.TheVariants as stop
 use Rattle.client_session.specs.declared.ending.Why.TheVariants as why
+use Rattle.exchange.proofs.AwaitLaws.{awaits_none, awaits_twice}
+use Rattle.client_session.proofs.AwaitLaws.{all_awaited, idle_awaited, next_awaited, none_awaited, still_awaited}
 use Rattle.client_session.proofs.DeskLaws.{met_at_end}
 use Rattle.client_session.proofs.KeepingLaws.{keeps_by, keeps_twice}
 use Rattle.client_session.proofs.SessionLaws.{begins, ended, goes_on, idles, risen_at_end, same_client, still_under_way}
@@ -18,6 +20,8 @@ loop-number-init g c = record {
   few = omega arith;
   met = none_met _;
   calm = refl;
+  awaits = rw c.clear.ensures (none_awaited _ _ _ _);
+  dials = awaits_none _ _ _ _ _ refl;
   kept = keeps_by _ _ _ _ _ _ c.requires.ready (untouched _ _) refl refl (keeps_still g.C.Meanings _) (refl, refl, refl, refl, refl);
 }
 
@@ -36,6 +40,9 @@ loop-number-preserved g c =
       few = c.in-Next.ensures.turn.more refl;
       met = none_twice _ _ _ c.loop-number.invariant.met c.in-Next.ensures.turn.met;
       calm = faults ∙ c.in-Next.ensures.turn.fault ∙ c.loop-number.invariant.calm;
+      awaits = still_awaited _ _ _ _ _ _ _ c.is_idle.ensures.same.step
+          (next_awaited _ _ _ _ _ _ _ _ c.loop-number.invariant.awaits (c.loop-number.around.client.now, refl, c.in-Next.ensures.awaits) c.in-Next.ensures.turn.turned);
+      dials = awaits_twice _ _ _ _ _ _ c.loop-number.invariant.dials c.in-Next.ensures.turn.dials;
       kept = keeps_twice _ _ _ _ _ _ _ c.loop-number.invariant.kept
           (keeps_twice _ _ _ _ _ _ _ c.in-Next.ensures.turn.kept
           (keeps_by _ _ _ _ _ _ c.in-Next.ensures.turn.kept.ready (untouched _ _) refl refl c.is_idle.ensures.same.kept (refl, refl, refl, refl, refl)));
@@ -49,6 +56,9 @@ returns-in-EndsAfter g c = record {
       (risen_at_end c.in-EndsAfter.stop _ _ _ _ _ c.after.ensures c.loop-number.invariant.calm c.in-EndsAfter.ensures.turn.fault)
       (keeps_twice _ _ _ _ _ _ _ c.loop-number.invariant.kept c.in-EndsAfter.ensures.turn.kept);
   each = holds_of_each _ _;
+  awaits = all_awaited _ _ _ _ _ _ _ _ _ c.in-EndsAfter.stop _ _ c.loop-number.invariant.awaits (c.loop-number.around.client.now, refl, c.in-EndsAfter.ensures.awaits) c.after.ensures
+      c.in-EndsAfter.ensures.turn.turned;
+  dials = awaits_twice _ _ _ _ _ _ c.loop-number.invariant.dials c.in-EndsAfter.ensures.turn.dials;
   idle_only = ended_busy c.in-EndsAfter.stop _ _ _ c.after.ensures c.in-EndsAfter.ensures.turn.busy;
 }
 
@@ -60,6 +70,9 @@ returns-in-EndsAt g c = record {
       (risen_at_end c.in-EndsAt.stop _ _ _ _ _ c.after-in-EndsAt.ensures c.loop-number.invariant.calm c.in-EndsAt.ensures.turn.fault)
       (keeps_twice _ _ _ _ _ _ _ c.loop-number.invariant.kept c.in-EndsAt.ensures.turn.kept);
   each = holds_of_each _ _;
+  awaits = all_awaited _ _ _ _ _ _ _ _ _ c.in-EndsAt.stop _ _ c.loop-number.invariant.awaits (c.loop-number.around.client.now, refl, c.in-EndsAt.ensures.awaits) c.after-in-EndsAt.ensures
+      c.in-EndsAt.ensures.turn.turned;
+  dials = awaits_twice _ _ _ _ _ _ c.loop-number.invariant.dials c.in-EndsAt.ensures.turn.dials;
   idle_only = ended_busy c.in-EndsAt.stop _ _ _ c.after-in-EndsAt.ensures c.in-EndsAt.ensures.turn.busy;
 }
 
@@ -76,5 +89,9 @@ returns-then-is_idle g c =
           (keeps_twice _ _ _ _ _ _ _ c.in-Next.ensures.turn.kept
           (keeps_by _ _ _ _ _ _ c.in-Next.ensures.turn.kept.ready (untouched _ _) refl refl c.is_idle.ensures.same.kept (refl, refl, refl, refl, refl))));
       each = holds_of_each _ _;
+      awaits = idle_awaited _ _ _ _ _ _ _ _ _
+          (next_awaited _ _ _ _ _ _ _ _ c.loop-number.invariant.awaits (c.loop-number.around.client.now, refl, c.in-Next.ensures.awaits) c.in-Next.ensures.turn.turned)
+          (omega arith) (c.is_idle.ensures.idle c.if-is_idle.true).0 (same_client _ _ c.is_idle.ensures.same.step) c.after-then-is_idle.ensures;
+      dials = awaits_twice _ _ _ _ _ _ c.loop-number.invariant.dials c.in-Next.ensures.turn.dials;
       idle_only = λ _. (c.is_idle.ensures.idle c.if-is_idle.true).1;
     }
