@@ -2,6 +2,7 @@ pub mod DeskLaws
 pub mod ConcludeLaws
 pub mod StatusLaws
 pub mod MomentLaws
+pub mod OwnLaws
 pub mod WritingLaws
 pub mod TurnLaws
 pub mod SessionLaws

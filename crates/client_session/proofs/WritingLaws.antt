@@ -1,16 +1,14 @@
 -- Writing to the client, whole or broken off.
-use Rattle.std.proofs.Common.{◌≡◌, ◌≤◌, ℕ, Bool, List, Option, None, Some, IfSome, IsSome, Result, Ok, Err, true, [], ◌∷◌, codes, sym, subst, inr, if◌then◌else◌}
+use Rattle.std.proofs.Common.{◌≡◌, ◌≤◌, ℕ, Bool, List, Option, Result, Ok, Err, true, [], ◌∷◌, codes, sym, subst, inr, if◌then◌else◌}
 use Rattle.jk_io.specs.Moments.{Moment}
 use Rattle.jk_io.specs.declared.failures.IoError.{IoError}
 use Rattle.jk_io.specs.declared.failures.IoError.TheVariants as io
 use Rattle.exchange.specs.Deliveries.{Delivers}
-use Rattle.http_out.specs.Own.{own_bytes}
-use Rattle.http_out.specs.declared.own_answers.Own.{Own}
 use Rattle.http_out.specs.declared.own_answers.OwnKind.{OwnKind}
 use Rattle.httpdate.specs.declared.date.HttpDate.{HttpDate}
 use Rattle.status_worker.specs.Refusals.{refusal_bytes}
 use Rattle.status_worker.specs.declared.refusal.PageRefusal.{PageRefusal}
-use Rattle.client_session.specs.Answers.{own_bytes_of, own_for}
+use Rattle.client_session.specs.Answers.{own_for}
 use Rattle.http_front.specs.Refusal.{status_of}
 use Rattle.http_front.specs.declared.answers.Form.{Form}
 use Rattle.http_front.specs.declared.head.Head.{Head}
@@ -60,17 +58,6 @@ refusal_broken refusal kind s n io.NoMemory no_fewer delivered =
     record { sent = delivered.written.0; steady = delivered.written.1; incoming = delivered.incoming; received = delivered.received }
 
 -- ---- other bytes
-
--- the bytes of the own answer that there is
-pub own_known : (found : Option Own) (kind : OwnKind) (bytes : List ℕ) → IsSome found → IfSome found (λ own. bytes ≡ own_bytes own kind)
-    → bytes ≡ own_bytes_of found kind
-own_known None kind bytes some is = absurd cc
-own_known (Some own) kind bytes some is = is
-
--- the same, of bytes that are the answer's
-pub known_slice : (found : Option Own) (kind : OwnKind) (answer bytes : List ℕ) → bytes ≡ answer → IfSome found (λ own. answer ≡ own_bytes own kind)
-    → IfSome found (λ own. bytes ≡ own_bytes own kind)
-known_slice found kind answer bytes are is = subst (λ (b : List ℕ). IfSome found (λ own. b ≡ own_bytes own kind)) (sym are) is
 
 -- where the client waits for it, 100 Continue is what it is told
 pub sent_continue : (head : Head) (s n : Moment) (answer : Result (Unit {0}) SessionStop) → awaits_continue head ≡ true

@@ -26,6 +26,7 @@ use crate::turn::{Answered, Settled, stopped};
 use crate::writing::{send, write_own};
 use exchange::{Means, Request, Sides, exchange_of};
 use http_front::{BodyIn, Head, Inbox};
+use http_out::Own;
 use jk_io::{Clock, Link, NoMemory, Reach, Sink};
 use lb_book::Desk;
 use lb_model::MemberConfig;
@@ -212,7 +213,7 @@ fn not_found<C: Sink>(alloc: Global, of: &Inquiry, client: &mut C) -> Settled
         return stopped(SessionStop::NoMemory);
     };
     conclude_stop(
-        write_own(404, own_kind_of(of), client),
+        write_own(Own::NotFound, own_kind_of(of), client),
         is_head(of.head),
         row,
     )

@@ -1,6 +1,6 @@
 //! The end of an exchange, or a status worker's answer, as a turn of its session.
-ghost use Rattle.std.specs.Prelude.{◌≡◌, vec_capacity, IsSome};
-ghost use Rattle.http_out.specs.Own.{own_of};
+ghost use Rattle.std.specs.Prelude.{◌≡◌, vec_capacity};
+ghost use Rattle.http_out.specs.Own.{status_of};
 ghost use Rattle.client_session.specs.Concluding.{HoldsName, IsConclusion, IsKnownStop, IsMemberRow, NamesWithin, cut_settled, own_settled, refused_settled, settled_by};
 
 use crate::ending::{SessionStop, Why};
@@ -8,6 +8,7 @@ use crate::rows::Row;
 use crate::turn::{Answered, Settled, stopped};
 use ajp_talk::Told;
 use exchange::ExchangeEnd;
+use http_out::Own;
 use lb_model::{MemberConfig, Served};
 use status_worker::PageRefusal;
 
@@ -45,7 +46,7 @@ pub(crate) fn conclude(
             answered: Answered::Whole,
             row: Some(member_row(row, members, member, told)),
         },
-        ExchangeEnd::Own(status) => own(status, head_only, row),
+        ExchangeEnd::Own(status) => answered_own(Own::with_status(status), head_only, row),
         ExchangeEnd::Cut { member, told } => cut(member_row(row, members, member, told)),
         ExchangeEnd::ClientFault => stopped(SessionStop::ClientFault),
         ExchangeEnd::Truncated => stopped(SessionStop::Truncated),
@@ -61,13 +62,12 @@ pub(crate) fn conclude(
 }
 
 /// An own answer was written.
-fn own(status: u16, head_only: bool, row: Row) -> Settled
-    requires { IsSome (own_of status) }
-    ensures { result ≡ own_settled row.asked status head_only }
+fn answered_own(own: Own, head_only: bool, row: Row) -> Settled
+    ensures { result ≡ own_settled row.asked (status_of own) head_only }
 {
     Settled {
-        answered: Answered::Not(SessionStop::Closed(Why::Own(status))),
-        row: Some(row.own(status, head_only)),
+        answered: Answered::Not(SessionStop::Closed(Why::Own(own.status()))),
+        row: Some(row.own(own, head_only)),
     }
 }
 
@@ -87,7 +87,9 @@ pub(crate) fn conclude_stop(stop: SessionStop, head_only: bool, row: Row) -> Set
     ensures { result ≡ settled_by stop row.asked head_only }
 {
     match stop {
-        SessionStop::Closed(Why::Own(status)) => own(status, head_only, row),
+        SessionStop::Closed(Why::Own(status)) => {
+            answered_own(Own::with_status(status), head_only, row)
+        }
         SessionStop::Closed(Why::Refused(refusal)) => turned_away(refusal, head_only, row),
         stop => stopped(stop),
     }

@@ -1,26 +1,25 @@
 //! The rows of answered requests, for a log.
-ghost use Rattle.std.specs.Prelude.{◌≡◌, [], length, IsSome};
-ghost use Rattle.http_out.specs.Own.{own_of};
+ghost use Rattle.std.specs.Prelude.{◌≡◌, [], length};
+ghost use Rattle.http_out.specs.Own.{status_of};
 ghost use Rattle.status_worker.specs.Pages.{sent_of};
 ghost use Rattle.status_worker.specs.Refusals.{refusal_body};
 ghost use Rattle.client_session.specs.Answers.{own_len as own_length};
 
 use http_front::Head;
-use http_out::own_body;
+use http_out::{Own, own_body};
 use jk_io::{Bytes, NoMemory};
 use lb_model::{Asked, Served};
 use status_worker::PageRefusal;
 use std::alloc::Global;
 
 /// The length of an own answer's body.
-fn own_len(status: u16, head_only: bool) -> u64
-    requires { IsSome (own_of status) }
-    ensures { result ≡ own_length status head_only }
+fn own_len(own: Own, head_only: bool) -> u64
+    ensures { result ≡ own_length (status_of own) head_only }
 {
     if head_only {
         return 0;
     }
-    own_body(status).len() as u64
+    own_body(own.status()).len() as u64
 }
 
 /// The length of a refusal's body, as much of it as is sent.
@@ -42,8 +41,8 @@ pub struct Row {
 }
 
 impl Row {
-    ghost use Rattle.std.specs.Prelude.{◌≡◌, ◌≤◌, length, vec_capacity, IfOk, IsSome};
-    ghost use Rattle.http_out.specs.Own.{own_of};
+    ghost use Rattle.std.specs.Prelude.{◌≡◌, ◌≤◌, length, vec_capacity, IfOk};
+    ghost use Rattle.http_out.specs.Own.{status_of};
     ghost use Rattle.lb_model.specs.declared.served.Asked.TheVariants as asked_is;
     ghost use Rattle.client_session.specs.Rows.{IsRowOf, own_row_by, refusal_row_by, worker_row};
 
@@ -89,15 +88,14 @@ impl Row {
     }
 
     /// The row of an own answer.
-    pub(crate) fn own(self, status: u16, head_only: bool) -> Served
-        requires { IsSome (own_of status) }
-        ensures { result ≡ own_row_by self.asked status head_only }
+    pub(crate) fn own(self, own: Own, head_only: bool) -> Served
+        ensures { result ≡ own_row_by self.asked (status_of own) head_only }
     {
         let Row { asked, name: _ } = self;
         Served {
             asked,
-            status,
-            body: own_len(status, head_only),
+            status: own.status(),
+            body: own_len(own, head_only),
             worker: None,
         }
     }

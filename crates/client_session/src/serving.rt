@@ -25,7 +25,7 @@ use crate::writing::write_own;
 use http_front::{
     BodyFault, BodyIn, Form, Head, HeadError, HeadGot, Inbox, MAX_BODY_BYTES, read_head,
 };
-use http_out::OwnKind;
+use http_out::{Own, OwnKind};
 use httpdate::HttpDate;
 use jk_io::{Awaited, Clock, Link, Reach, Sink};
 use lb_book::Desk;
@@ -140,10 +140,10 @@ fn refuse<C: Sink, W: RowSink>(
     let Ok(()) = rows.room() else {
         return SessionStop::NoMemory;
     };
-    let status = form.status();
-    let stop = write_own(status, refused_kind(date), client);
+    let own = Own::with_status(form.status());
+    let stop = write_own(own, refused_kind(date), client);
     if let SessionStop::Closed(_) = stop {
-        rows.put(Row::refused(alloc).own(status, false));
+        rows.put(Row::refused(alloc).own(own, false));
     }
     stop
 }

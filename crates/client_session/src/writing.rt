@@ -1,12 +1,12 @@
 //! Writing to the client.
-ghost use Rattle.std.specs.Prelude.{◌≡◌, IsSome};
-ghost use Rattle.http_out.specs.Own.{own_of};
+ghost use Rattle.std.specs.Prelude.{◌≡◌};
+ghost use Rattle.http_out.specs.Own.{status_of};
 ghost use Rattle.client_session.specs.Standings.{IsClientStep};
 ghost use Rattle.client_session.specs.Writing.{WritesOwn, WritesPart, WritesRefusal, stop_by};
 
 use crate::ending::{SessionStop, Why};
 use exchange::deliver;
-use http_out::{OwnKind, own_answer};
+use http_out::{Own, OwnKind};
 use jk_io::{IoError, Sink};
 use status_worker::{PageRefusal, refusal_answer};
 
@@ -30,13 +30,12 @@ pub(crate) fn send<C: Sink>(bytes: &[u8], client: &mut C) -> Result<(), SessionS
     }
 }
 
-/// Writes the answer with this status, after which the session ends.
-pub(crate) fn write_own<C: Sink>(status: u16, kind: OwnKind, client: &mut C) -> SessionStop
-    requires { IsSome (own_of status) }
-    ensures { IsClientStep C.Meanings client.old client.new (λ s n. WritesOwn status kind s n result) }
+/// Writes this answer of the connector's own, after which the session ends.
+pub(crate) fn write_own<C: Sink>(own: Own, kind: OwnKind, client: &mut C) -> SessionStop
+    ensures { IsClientStep C.Meanings client.old client.new (λ s n. WritesOwn (status_of own) kind s n result) }
 {
-    match deliver(client, own_answer(status, kind).as_slice()) {
-        Ok(()) => SessionStop::Closed(Why::Own(status)),
+    match deliver(client, own.answer(kind).as_slice()) {
+        Ok(()) => SessionStop::Closed(Why::Own(own.status())),
         Err(error) => stop_of(error),
     }
 }
