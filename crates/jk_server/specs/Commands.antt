@@ -119,7 +119,7 @@ pub record WantsStart {W G C S O X Z L : Type 0} (told : Tells W G C S O X Z) (t
 
 -- The workers of a site ran: the world handed out a gear for each, in order, each just made and as that worker wants it, and
 -- each was given its log where logs are wanted; what one run over the site made of these gears came back, in order, as far as the run
--- gives gears back (`returned`); and the run's end is the command's.
+-- gives gears back (`returned`); and the run's end is the command's, which names no fault of the world: it had none.
 pub record RunsSite {W G C S O X Z L : Type 0} (told : Tells W G C S O X Z) (cfg : Config) (rules : List Rule) (format : List FormatPart) (threads : ℕ) (wanted : GearWants) (s n : WorldSide G) (ended : CommandEnd L) : Type 0 where
   pub gears : List G
   pub begun : List G
@@ -132,6 +132,7 @@ pub record RunsSite {W G C S O X Z L : Type 0} (told : Tells W G C S O X Z) (cfg
   pub closing : Closing L
   pub run : IsSiteRun (visit cfg rules) told.link told.shelved (logging told.shelved told.shelf_faults told.log told.may_wait) format cfg.lbs (map told.gear begun) (map told.gear left) ends closing
   pub passed : HandsAndTakes s n gears (returned closing left)
+  pub calm : n.faults ≡ s.faults
   pub status : ended ≡ end_of_run ends closing
 
 -- The workers of a site ran, or one of them had no log, or memory was wanted before they did.
@@ -150,6 +151,7 @@ pub record RunsContainer {W G C S O X Z L : Type 0} (told : Tells W G C S O X Z)
   pub run : IsContainerRun app told.link (map told.gear gears) (map told.gear left) ends
   pub rests : AllZip told.keeps_rest gears left
   pub passed : HandsAndTakes s n gears left
+  pub calm : n.faults ≡ s.faults
   pub status : ended ≡ end_of_container ends
 
 -- ---- all that a command does

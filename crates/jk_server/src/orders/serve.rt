@@ -105,6 +105,7 @@ fn give_by<W: World>(world: &mut W, closing: &Closing<Brand>, gears: Vec<GearOf<
     requires out { length (returned closing.now gears.items) ≤ W.out world.old }
     ensures given { let at = world_side W.World in
         HandsAndTakes (at world.old) (at world.new) [] (returned closing.now gears.items) }
+    ensures calm { W.faults world.new ≡ W.faults world.old }
     ensures unshown { W.shown world.new ≡ W.shown world.old }
 {
     match closing {
@@ -118,6 +119,7 @@ fn settle<W: World>(world: &mut W, run: SiteRun<Brand, GearOf<W>>) -> CommandEnd
     requires out { length (returned run.closing run.gears.items) ≤ W.out world.old }
     ensures given { let at = world_side W.World in
         HandsAndTakes (at world.old) (at world.new) [] (returned run.closing run.gears.items) }
+    ensures calm { W.faults world.new ≡ W.faults world.old }
     ensures ended { result ≡ end_of_run run.workers run.closing }
     ensures unshown { W.shown world.new ≡ W.shown world.old }
 {

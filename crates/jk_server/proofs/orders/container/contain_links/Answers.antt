@@ -42,5 +42,6 @@ returns-in-Ok-contain_gears g c =
       passed =
           all_came_back _ _ _ _ left.items _ c.in-Ok.ensures.taken c.give_back.ensures.came_back c.give_back.ensures.fewer left.ok.0
           c.give_back.ensures.same.0 c.give_back.ensures.same.1;
+      calm = c.give_back.ensures.same.1 ∙ c.in-Ok.ensures.steady refl;
       status = rw c.as_slice.ensures at c.end_of_container.ensures;
     })

@@ -91,5 +91,6 @@ returns-in-Ok-serve_gears-clause-works g c =
       passed =
           then_back _ _ _ _ _ (still_taken _ _ (world_side g.W.World c.log_gears.new.world) c.in-Ok.gears.items c.in-Ok.ensures.taken same.0 same.1 same.2 calm)
           c.settle.ensures.given;
+      calm = c.settle.ensures.calm ∙ calm ∙ c.in-Ok.ensures.steady refl;
       status = c.settle.ensures.ended;
     })))
