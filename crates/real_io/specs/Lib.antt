@@ -5,4 +5,5 @@ pub mod Heads
 pub mod Held
 pub mod Notices
 pub mod Looks
+pub mod MemberAddresses
 pub mod Passing

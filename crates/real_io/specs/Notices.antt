@@ -1,8 +1,8 @@
 -- When a line is said on standard error: at most one a second of a kind. And whom it names.
-use Rattle.std.specs.Prelude.{◌≡◌, ℕ, ◌+◌, ◌<◌, ◌≤◌, min, Bool, ◌&&◌, Option, Some, None, List, [], ◌++◌, codes, decimal, if◌then◌else◌}
-use Rattle.std.specs.Bool.{nat_eq}
+use Rattle.std.specs.Prelude.{◌≡◌, ℕ, ◌+◌, ◌<◌, ◌≤◌, min, Bool, Option, Some, None, List, [], ◌++◌, codes, decimal, if◌then◌else◌}
 use Rattle.std.specs.List.{flat_map, list_any}
-use Rattle.std.specs.Str.{bytes_eq}
+use Rattle.real_io.specs.MemberAddresses.{is_same}
+use Rattle.real_io.specs.declared.member_address.MemberAddress.{MemberAddress}
 use Rattle.real_io.specs.declared.notices.Named.{Named}
 use Rattle.real_io.specs.declared.notices.Tally.{Tally}
 
@@ -20,13 +20,14 @@ pub record AsksBack (before : Tally) (now : ℕ) (after : Tally) (result : Optio
   pub left_out : (IsNoticeDue before now → ⊥) → (result ≡ None) × (after ≡ record { last = before.last; left_out = min (before.left_out + 1) 18446744073709551615 })
 
 -- the worker is reached at this address
-abbrev pub is_at : (host : List ℕ) → (port : ℕ) → Named → Bool
-is_at host port worker = nat_eq worker.port port && bytes_eq worker.host host
+abbrev pub is_at : MemberAddress → Named → Bool
+is_at address worker = is_same worker.address address
 
-abbrev pub name_at : (host : List ℕ) → (port : ℕ) → Named → List ℕ
-name_at host port worker = if is_at host port worker then worker.name ++ codes " " else []
+abbrev pub name_at : MemberAddress → Named → List ℕ
+name_at address worker = if is_at address worker then worker.name ++ codes " " else []
 
 -- a member, as a line names it: the workers that are reached at its address, where some are known, and the address
-abbrev pub member_text : List Named → (host : List ℕ) → (port : ℕ) → List ℕ
-member_text workers host port =
-    flat_map (name_at host port) workers ++ (if list_any (is_at host port) workers then codes "at " else []) ++ host ++ codes ":" ++ decimal port
+abbrev pub member_text : List Named → MemberAddress → List ℕ
+member_text workers address =
+    flat_map (name_at address) workers ++ (if list_any (is_at address) workers then codes "at " else []) ++ address.host ++ codes ":"
+        ++ decimal address.port

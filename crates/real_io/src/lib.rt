@@ -13,6 +13,7 @@ mod failed_calls;
 mod heads;
 mod held_bytes;
 mod leisure;
+mod member_address;
 mod moments;
 mod notices;
 mod outbox;

@@ -1,8 +1,9 @@
 //! Lines on standard error, at most one a second of a kind.
-ghost use Rattle.std.specs.Prelude.{◌≡◌, ◌↔◌, ◌++◌, [], IsTrue, None, OnOk, codes, if◌then◌else◌};
+ghost use Rattle.std.specs.Prelude.{◌≡◌, ◌↔◌, ◌++◌, [], IfOk, IsTrue, None, OnOk, codes, if◌then◌else◌};
 ghost use Rattle.std.specs.List.{flat_map, list_any};
 ghost use Rattle.real_io.specs.Notices.{AsksBack, IsDueAfter, is_at, member_text, name_at};
 
+use crate::member_address::MemberAddress;
 use crate::moments::moment;
 use jk_io::{Bytes, NoMemory, put_decimal};
 use libc::write;
@@ -81,16 +82,14 @@ pub(crate) enum Failure<'a> {
 /// The name of a worker that is reached at an address.
 #[derive(Drop)]
 struct Named {
-    host: Bytes,
-    port: u16,
+    address: MemberAddress,
     name: Bytes,
 }
 
 /// A member that failed, and wasn't seen to serve since.
 #[derive(Drop)]
 struct Lost {
-    host: Bytes,
-    port: u16,
+    address: MemberAddress,
     /// It couldn't be reached; else its link failed.
     by_dial: bool,
 }
@@ -146,14 +145,11 @@ impl Notices {
 
     /// The worker of this name is reached at this address.
     pub fn name(&self, host: &Bytes, port: u16, name: &Bytes) -> Result<(), NoMemory> {
+        let address = MemberAddress::of(host, port)?;
         match self.members.try_lock() {
-            Some(mut members) if !members.has_name(host, port, name) => {
-                let named = Named {
-                    host: host.copy()?,
-                    port,
-                    name: name.copy()?,
-                };
-                Ok(members.names.push(named)?)
+            Some(mut members) if !members.has_name(&address, name) => {
+                let name = name.copy()?;
+                Ok(members.names.push(Named { address, name })?)
             }
             _ => Ok(()),
         }
@@ -178,38 +174,38 @@ impl Notices {
     }
 
     // A member fails. Want of memory leaves a line out.
-    pub(crate) fn fails(&self, host: &Bytes, port: u16, failure: Failure<'_>) {
+    pub(crate) fn fails(&self, address: &MemberAddress, failure: Failure<'_>) {
         if let Some(mut members) = self.members.try_lock() {
             let by_dial = matches!(failure, Failure::Unreached(_));
-            let _ = members.note_lost(host, port, by_dial);
+            let _ = members.note_lost(address, by_dial);
             self.lost.store(members.lost.len() as u64, Ordering::SeqCst);
             if let Some(left_out) = members.tally_of(by_dial).ask(moment()) {
-                let _ = members.say_lost(self.alloc, host, port, failure, left_out);
+                let _ = members.say_lost(self.alloc, address, failure, left_out);
             }
         }
     }
 
     // A member was reached, or where `serves` is true it gave bytes, as it does where it serves.
-    pub(crate) fn is_there(&self, host: &Bytes, port: u16, serves: bool) {
+    pub(crate) fn is_there(&self, address: &MemberAddress, serves: bool) {
         if self.lost.load(Ordering::SeqCst) == 0 {
             return;
         }
         if let Some(mut members) = self.members.try_lock()
-            && members.forget(host, port, serves)
+            && members.forget(address, serves)
         {
             self.lost.store(members.lost.len() as u64, Ordering::SeqCst);
             if let Some(left_out) = members.back.ask(moment()) {
-                let _ = members.say_back(self.alloc, host, port, left_out);
+                let _ = members.say_back(self.alloc, address, left_out);
             }
         }
     }
 }
 
 impl Members {
-    fn has_name(&self, host: &Bytes, port: u16, name: &Bytes) -> bool {
-        self.names.iter().any(|named| named.port == port
-            && named.host == *host
-            && named.name == *name)
+    fn has_name(&self, address: &MemberAddress, name: &Bytes) -> bool {
+        self.names
+            .iter()
+            .any(|named| named.address.is(address) && named.name == *name)
     }
 
     // Which lines a failure belongs to.
@@ -222,30 +218,24 @@ impl Members {
     }
 
     // The place of a member that is lost.
-    fn place_of(&self, host: &Bytes, port: u16) -> Option<usize> {
-        self.lost
-            .iter()
-            .position(|lost| lost.port == port && lost.host == *host)
+    fn place_of(&self, address: &MemberAddress) -> Option<usize> {
+        self.lost.iter().position(|lost| lost.address.is(address))
     }
 
-    fn note_lost(&mut self, host: &Bytes, port: u16, by_dial: bool) -> Result<(), NoMemory> {
-        match self.place_of(host, port) {
+    fn note_lost(&mut self, address: &MemberAddress, by_dial: bool) -> Result<(), NoMemory> {
+        match self.place_of(address) {
             Some(place) if place < self.lost.len() => self.lost[place].by_dial = by_dial,
             _ => {
-                let host = host.copy()?;
-                self.lost.push(Lost {
-                    host,
-                    port,
-                    by_dial,
-                })?;
+                let address = address.copy()?;
+                self.lost.push(Lost { address, by_dial })?;
             }
         }
         Ok(())
     }
 
     // Whether it was lost until now: one whose link failed is, until it serves.
-    fn forget(&mut self, host: &Bytes, port: u16, serves: bool) -> bool {
-        match self.place_of(host, port) {
+    fn forget(&mut self, address: &MemberAddress, serves: bool) -> bool {
+        match self.place_of(address) {
             Some(place) if place < self.lost.len() && (serves || self.lost[place].by_dial) => {
                 drop(self.lost.swap_remove(place));
                 true
@@ -257,13 +247,12 @@ impl Members {
     fn say_lost(
         &self,
         alloc: Global,
-        host: &Bytes,
-        port: u16,
+        address: &MemberAddress,
         failure: Failure<'_>,
         left_out: u64,
     ) -> Result<(), NoMemory> {
         let mut line = Bytes::from_slice(alloc, b"jkd: ")?;
-        put_member(&mut line, self.names.as_slice(), host, port)?;
+        put_member(&mut line, self.names.as_slice(), address)?;
         put_failure(alloc, &mut line, failure)?;
         end_line(&mut line, left_out)
     }
@@ -271,29 +260,28 @@ impl Members {
     fn say_back(
         &self,
         alloc: Global,
-        host: &Bytes,
-        port: u16,
+        address: &MemberAddress,
         left_out: u64,
     ) -> Result<(), NoMemory> {
         let mut line = Bytes::from_slice(alloc, b"jkd: ")?;
-        put_member(&mut line, self.names.as_slice(), host, port)?;
+        put_member(&mut line, self.names.as_slice(), address)?;
         line.extend(b" is back")?;
         end_line(&mut line, left_out)
     }
 }
 
 // Whether a worker is reached at an address.
-fn is_at(worker: &Named, host: &Bytes, port: u16) -> bool
-    ensures { result ≡ is_at host.now port worker.now }
+fn is_at(worker: &Named, address: &MemberAddress) -> bool
+    ensures { result ≡ is_at address.now worker.now }
 {
-    worker.port == port && worker.host == *host
+    worker.address.is(address)
 }
 
 // Puts the name of a worker, if it is reached at an address.
-fn put_name(line: &mut Bytes, worker: &Named, host: &Bytes, port: u16) -> Result<(), NoMemory>
-    ensures { OnOk result (line.new ≡ line.old ++ name_at host.now port worker.now) }
+fn put_name(line: &mut Bytes, worker: &Named, address: &MemberAddress) -> Result<(), NoMemory>
+    ensures { OnOk result (line.new ≡ line.old ++ name_at address.now worker.now) }
 {
-    if !is_at(worker, host, port) {
+    if !is_at(worker, address) {
         return Ok(());
     }
     line.extend(worker.name.as_slice())?;
@@ -301,27 +289,27 @@ fn put_name(line: &mut Bytes, worker: &Named, host: &Bytes, port: u16) -> Result
 }
 
 // Puts the names of the workers that are reached at an address.
-fn put_names(line: &mut Bytes, workers: &[Named], host: &Bytes, port: u16) -> Result<(), NoMemory>
-    ensures { OnOk result (line.new ≡ line.old ++ flat_map (name_at host.now port) workers.now) }
+fn put_names(line: &mut Bytes, workers: &[Named], address: &MemberAddress) -> Result<(), NoMemory>
+    ensures { OnOk result (line.new ≡ line.old ++ flat_map (name_at address.now) workers.now) }
 {
     for worker in workers {
-        put_name(line, worker, host, port)?;
+        put_name(line, worker, address)?;
     }
     Ok(())
 }
 
 // Whether a worker is known that is reached at an address.
-fn is_known(workers: &[Named], host: &Bytes, port: u16) -> bool
-    ensures { result ≡ list_any (is_at host.now port) workers.now }
+fn is_known(workers: &[Named], address: &MemberAddress) -> bool
+    ensures { result ≡ list_any (is_at address.now) workers.now }
 {
-    workers.iter().any(|worker| is_at(worker, host, port))
+    workers.iter().any(|worker| is_at(worker, address))
 }
 
 // Puts the end of the names, if there are some.
-fn put_at(line: &mut Bytes, workers: &[Named], host: &Bytes, port: u16) -> Result<(), NoMemory>
-    ensures { OnOk result (line.new ≡ line.old ++ (if list_any (is_at host.now port) workers.now then codes "at " else [])) }
+fn put_at(line: &mut Bytes, workers: &[Named], address: &MemberAddress) -> Result<(), NoMemory>
+    ensures { OnOk result (line.new ≡ line.old ++ (if list_any (is_at address.now) workers.now then codes "at " else [])) }
 {
-    if is_known(workers, host, port) {
+    if is_known(workers, address) {
         line.extend(b"at ")
     } else {
         Ok(())
@@ -329,14 +317,14 @@ fn put_at(line: &mut Bytes, workers: &[Named], host: &Bytes, port: u16) -> Resul
 }
 
 // Puts the names of the workers at an address, if they are known, and the address.
-fn put_member(line: &mut Bytes, workers: &[Named], host: &Bytes, port: u16) -> Result<(), NoMemory>
-    ensures { OnOk result (line.new ≡ line.old ++ member_text workers.now host.now port) }
+fn put_member(line: &mut Bytes, workers: &[Named], address: &MemberAddress) -> Result<(), NoMemory>
+    ensures { OnOk result (line.new ≡ line.old ++ member_text workers.now address.now) }
 {
-    put_names(line, workers, host, port)?;
-    put_at(line, workers, host, port)?;
-    line.extend(host.as_slice())?;
+    put_names(line, workers, address)?;
+    put_at(line, workers, address)?;
+    line.extend(address.host.as_slice())?;
     line.push(b':')?;
-    put_decimal(line, u128::from(port))
+    put_decimal(line, u128::from(address.port))
 }
 
 fn say_unkept(
@@ -383,26 +371,26 @@ fn end_line(line: &mut Bytes, left_out: u64) -> Result<(), NoMemory> {
 #[derive(Drop)]
 pub(crate) struct Watched {
     notices: Notices,
-    host: Bytes,
-    port: u16,
+    address: MemberAddress,
 }
 
 impl Watched {
-    pub fn new(notices: &Notices, host: &Bytes, port: u16) -> Result<Watched, NoMemory> {
+    pub fn new(notices: &Notices, address: MemberAddress) -> Result<Watched, NoMemory>
+        ensures { IfOk result (λ watched. watched.address ≡ address) }
+    {
         Ok(Watched {
             notices: notices.share()?,
-            host: host.copy()?,
-            port,
+            address,
         })
     }
 
     /// It fails.
     pub fn fails(&self, failure: Failure<'_>) {
-        self.notices.fails(&self.host, self.port, failure);
+        self.notices.fails(&self.address, failure);
     }
 
     /// It gave bytes.
     pub fn serves(&self) {
-        self.notices.is_there(&self.host, self.port, true);
+        self.notices.is_there(&self.address, true);
     }
 }

@@ -4,6 +4,7 @@ ghost use Rattle.std.specs.Duration.{as_nanos};
 
 use crate::ending::Ending;
 use crate::failed_calls::FailedCalls;
+use crate::member_address::MemberAddress;
 use crate::moments::moment;
 use crate::notices::{Failure, Notices, Watched};
 use crate::outbox::Outbox;
@@ -76,11 +77,11 @@ impl<'r, R: Net<Stream = TcpStream>> TcpDial<'r, R> {
     }
 
     // Says of a member whether it was reached.
-    fn tell(&self, host: &Bytes, port: u16, answer: &io::Result<TcpStream>) {
+    fn tell(&self, address: &MemberAddress, answer: &io::Result<TcpStream>) {
         if let Some(notices) = &self.notices {
             match answer {
-                Ok(_) => notices.is_there(host, port, false),
-                Err(reason) => notices.fails(host, port, Failure::Unreached(reason)),
+                Ok(_) => notices.is_there(address, false),
+                Err(reason) => notices.fails(address, Failure::Unreached(reason)),
             }
         }
     }
@@ -90,8 +91,7 @@ impl<'r, R: Net<Stream = TcpStream>> TcpDial<'r, R> {
         &self,
         alloc: Global,
         stream: TcpStream,
-        host: &Bytes,
-        port: u16,
+        address: MemberAddress,
     ) -> Result<StreamEnd, NoMemory> {
         if self.keepalive {
             keep_alive(&stream);
@@ -101,7 +101,7 @@ impl<'r, R: Net<Stream = TcpStream>> TcpDial<'r, R> {
             None => None,
         };
         let watched = match &self.notices {
-            Some(notices) => Some(Watched::new(notices, host, port)?),
+            Some(notices) => Some(Watched::new(notices, address)?),
             None => None,
         };
         Ok(StreamEnd::over(WaitedStream::of_member(alloc, stream, ending, watched)?))
@@ -128,10 +128,11 @@ impl<'r, R: Net<Stream = TcpStream>> Dial for TcpDial<'r, R> {
         if let Some(outbox) = &self.first {
             outbox.flush();
         }
-        let answer = connect(self.rt, host, port, self.millis);
-        self.tell(host, port, &answer);
+        let address = MemberAddress::of(host, port)?;
+        let answer = connect(self.rt, &address, self.millis);
+        self.tell(&address, &answer);
         match answer {
-            Ok(stream) => Ok(self.link_over(alloc, self.end_of(alloc, stream, host, port)?)?),
+            Ok(stream) => Ok(self.link_over(alloc, self.end_of(alloc, stream, address)?)?),
             Err(_) => Err(self.failed.fail()),
         }
     }
@@ -161,16 +162,15 @@ fn keep_alive(stream: &TcpStream) {
 // Tries each address of a host in turn, all within so many milliseconds. A name that isn't UTF-8 is that of no host.
 fn connect<R: Net<Stream = TcpStream>>(
     rt: &R,
-    host: &Bytes,
-    port: u16,
+    address: &MemberAddress,
     millis: u64,
 ) -> io::Result<TcpStream> {
-    let Ok(name) = str::from_utf8(host.as_slice()) else {
+    let Ok(name) = str::from_utf8(address.host.as_slice()) else {
         return Err(ErrorKind::InvalidInput.into());
     };
     let begun = moment();
     let mut last = ErrorKind::NotFound.into();
-    for address in (name, port).to_socket_addrs(rt)? {
+    for address in (name, address.port).to_socket_addrs(rt)? {
         match connect_to(rt, &address, begun, millis) {
             Ok(stream) => return Ok(stream),
             Err(error) => last = error,

@@ -4,4 +4,4 @@ use Rattle.real_io.specs.Notices.{name_at}
 use Rattle.real_io.proofs.notices.put_names.Given as goal
 
 abbrev pub invariant-loop-worker : goal.invariant-loop-worker
-invariant-loop-worker l = l.line ≡ l.fn.line ++ flat_map (name_at l.host l.port) (take l.worker-index l.workers)
+invariant-loop-worker l = l.line ≡ l.fn.line ++ flat_map (name_at l.address) (take l.worker-index l.workers)
