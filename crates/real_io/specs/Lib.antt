@@ -7,3 +7,4 @@ pub mod Notices
 pub mod Looks
 pub mod MemberAddresses
 pub mod Passing
+pub mod Patiences

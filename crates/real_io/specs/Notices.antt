@@ -30,4 +30,4 @@ name_at address worker = if is_at address worker then worker.name ++ codes " " e
 abbrev pub member_text : List Named → MemberAddress → List ℕ
 member_text workers address =
     flat_map (name_at address) workers ++ (if list_any (is_at address) workers then codes "at " else []) ++ address.host ++ codes ":"
-        ++ decimal address.port
+    ++ decimal address.port

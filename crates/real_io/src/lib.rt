@@ -4,7 +4,8 @@
 //! Source: an own rule: a call fails only where the object's count of faults rose in it, and after a refusal nothing was given
 //! or taken. What a worker wrote to its client goes out before it reads or waits, by an `Outbox` that its door and its
 //! dial share.
-//! Contract: the traits' clauses. Read first: src/tcp_door.rt.
+//! Contract: the traits' clauses, and what a link to a member makes of what it is told to await (`TcpLink::await_next`, specs/Patiences.antt).
+//! Read first: src/tcp_door.rt.
 //! Errors: `IoError` and `FileError`; want of memory alone needs no cause.
 #![tactic(auto)]
 

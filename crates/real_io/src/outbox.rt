@@ -1,6 +1,7 @@
 //! The outbox of a worker: all that it wrote to its client and hasn't sent yet.
 ghost use Rattle.std.specs.Prelude.{◌≡◌, ◌<◌, ◌≤◌, ◌++◌, [], IfNone, IfSome, IsSome, None, false, length, not, take, true};
 ghost use Rattle.real_io.specs.Held.{HoldsRest};
+ghost use Rattle.real_io.specs.Patiences.{EndHearsIf};
 ghost use Rattle.real_io.specs.Waitless.{IfCame};
 
 use crate::held_bytes::HeldBytes;
@@ -100,6 +101,16 @@ impl Held<StreamEnd> {
             None => AtHand::Broken,
         }
     }
+
+    // Tells the client's end what is waited for next.
+    fn await_next(&mut self, what: Awaited)
+        ensures heard { EndHearsIf self.old.end what self.new.end }
+        ensures same { (self.new.bytes ≡ self.old.bytes) × (self.new.is_broken ≡ self.old.is_broken) }
+    {
+        if let Some(end) = &mut self.end {
+            end.await_next(what);
+        }
+    }
 }
 
 /// What a worker wrote to its client and hasn't sent yet: at most 73,728 bytes. It is shared by the client's link and the
@@ -178,10 +189,8 @@ impl Outbox {
 
     // Tells the client's end what is waited for next.
     pub(crate) fn await_next(&self, what: Awaited) {
-        if let Some(mut held) = self.held.try_lock()
-            && let Some(end) = &mut held.end
-        {
-            end.await_next(what);
+        if let Some(mut held) = self.held.try_lock() {
+            held.await_next(what);
         }
     }
 

@@ -1,7 +1,9 @@
 //! This side's end of a TCP stream: the stream, as it is waited for, and how many calls of it failed.
 ghost use Rattle.std.specs.Prelude.{◌≡◌, ◌≤◌, IfOk, IsOk, Some, length};
 ghost use Rattle.jk_io.specs.Told.{HasCause};
+ghost use Rattle.real_io.specs.Patiences.{EndHears};
 ghost use Rattle.real_io.specs.Waitless.{IfCame};
+ghost use Rattle.std.specs.Net.Tcp.{stream_raw_fd};
 
 use crate::ending::Ending;
 use crate::failed_calls::FailedCalls;
@@ -58,7 +60,9 @@ impl StreamEnd {
     }
 
     /// The system's number of the stream.
-    pub fn number(&self) -> RawFd {
+    pub fn number(&self) -> RawFd
+        ensures { result ≡ stream_raw_fd self.now.stream.stream }
+    {
         self.stream.number()
     }
 
@@ -76,7 +80,8 @@ impl StreamEnd {
 
     /// Is told what is waited for next.
     pub fn await_next(&mut self, what: Awaited)
-        ensures { self.new.failed ≡ self.old.failed }
+        ensures heard { EndHears self.old what self.new }
+        ensures same { self.new.failed ≡ self.old.failed }
     {
         self.stream.await_next(what);
     }

@@ -4,6 +4,7 @@ ghost use Rattle.jk_io.specs.Told.{HasCause};
 ghost use Rattle.std.specs.List.{between};
 ghost use Rattle.real_io.specs.Heads.{EndsHead, IsShortHead, LacksHead};
 ghost use Rattle.real_io.specs.Looks.{IsBrief};
+ghost use Rattle.real_io.specs.Patiences.{WireHears};
 ghost use Rattle.real_io.specs.Unflushed.{unflushed_with, replies_after};
 ghost use Rattle.real_io.specs.Waitless.{IfCame};
 
@@ -388,7 +389,9 @@ impl Wire {
         }
     }
 
-    fn await_next(&mut self, what: Awaited) {
+    fn await_next(&mut self, what: Awaited)
+        ensures { WireHears self.old what self.new }
+    {
         match self {
             Wire::End(end) => end.await_next(what),
             Wire::Outbox(outbox) => outbox.await_next(what),
@@ -507,8 +510,13 @@ impl Sink for TcpLink {
 }
 
 impl Link for TcpLink {
+    ghost use Rattle.real_io.specs.Patiences.{WireHears};
+
     // nothing was read ahead
     ghost found_quiet = { λ before after. before.from ≡ before.to };
+
+    // a link to a member waits by what it was told
+    ghost heard = { λ before what after. WireHears before.wire what after.wire };
 
     fn waits(&mut self) -> bool
         // Where it waits, no whole head is there, nor as many bytes as a head may have.
@@ -526,6 +534,9 @@ impl Link for TcpLink {
     }
 
     fn await_next(&mut self, what: Awaited)
+        // Its reads wait as it was told.
+        ensures heard { WireHears self.old.wire what self.new.wire }
+
         // What was read ahead stays.
         ensures rest { (self.new.from ≡ self.old.from) × (self.new.to ≡ self.old.to) × (self.new.ahead ≡ self.old.ahead) }
 

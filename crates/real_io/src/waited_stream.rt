@@ -1,5 +1,7 @@
 //! A TCP stream, and how long it is waited for.
-ghost use Rattle.std.specs.Prelude.{◌≡◌, ◌<◌, ◌≤◌, IfOk, IfSome, Some, length};
+ghost use Rattle.std.specs.Prelude.{◌≡◌, ◌<◌, ◌≤◌, IfOk, IfSome, None, Some, false, length, true};
+ghost use Rattle.std.specs.Net.Tcp.{stream_raw_fd};
+ghost use Rattle.real_io.specs.Patiences.{HearsOf, IsSpent, body_patience, head_patience};
 ghost use Rattle.real_io.specs.Waitless.{IfCame, IsWaitless};
 
 use crate::ending::Ending;
@@ -190,7 +192,12 @@ impl WaitedStream {
     }
 
     // Has a call of the system come back after so many milliseconds. A stream that refuses this is broken.
-    fn come_back_after(&mut self, millis: u64) {
+    fn come_back_after(&mut self, millis: u64)
+        ensures asked { 0 < millis → self.new.waits.value.slice ≡ millis }
+        ensures unasked { millis ≡ 0 → self.new.waits.value.slice ≡ self.old.waits.value.slice }
+        ensures same { self.new.waits.value ≡ record self.old.waits.value { slice = self.new.waits.value.slice } }
+        ensures ended { self.new.has_ended ≡ self.old.has_ended }
+    {
         if self.waits.slice != millis && millis != 0 {
             let wait = Some(Duration::from_millis(millis));
             let _ = self.stream.set_read_timeout(wait);
@@ -200,7 +207,9 @@ impl WaitedStream {
     }
 
     /// The system's number of the stream.
-    pub(crate) fn number(&self) -> RawFd {
+    pub(crate) fn number(&self) -> RawFd
+        ensures { result ≡ stream_raw_fd self.now.stream }
+    {
         self.stream.as_raw_fd()
     }
 
@@ -217,7 +226,9 @@ impl WaitedStream {
     }
 
     /// Is told what is waited for next.
-    pub(crate) fn await_next(&mut self, what: Awaited) {
+    pub(crate) fn await_next(&mut self, what: Awaited)
+        ensures { HearsOf self.old.waits.value what self.new.waits.value }
+    {
         match what {
             Awaited::Pong { millis } | Awaited::Reply { millis } => self.wait_each(millis),
             Awaited::Body => self.begin_body(moment()),
@@ -227,7 +238,11 @@ impl WaitedStream {
     }
 
     // From now on each read and each write waits so many milliseconds at most.
-    fn wait_each(&mut self, millis: u64) {
+    fn wait_each(&mut self, millis: u64)
+        ensures patience { self.new.waits.value.patience ≡ Patience.Each millis }
+        ensures comes_back { 0 < millis → 0 < self.new.waits.value.slice }
+        ensures same { self.new.waits.value.limits ≡ self.old.waits.value.limits }
+    {
         if millis != 0 && self.waits.slice == 0 {
             self.come_back_after(SLICE_MILLIS);
         }
@@ -235,14 +250,20 @@ impl WaitedStream {
     }
 
     // A client's body is to come at its pace, from this moment on.
-    fn begin_body(&mut self, now: u64) {
+    fn begin_body(&mut self, now: u64)
+        ensures { let patience = body_patience self.old.waits.value.limits now self.old.waits.value.patience in
+            self.new.waits.value ≡ record self.old.waits.value { patience = patience } }
+    {
         if let Some(limits) = self.waits.limits {
             self.waits.patience = Patience::Paced(Pace::new(limits.rate, now));
         }
     }
 
     // A client's whole head is to come in time.
-    fn begin_head(&mut self, now: u64) {
+    fn begin_head(&mut self, now: u64)
+        ensures { let patience = head_patience self.old.waits.value.limits now self.old.waits.value.patience in
+            self.new.waits.value ≡ record self.old.waits.value { patience = patience } }
+    {
         match self.waits.limits {
             Some(limits) if limits.head != 0 => {
                 let millis = limits.head.saturating_mul(1_000);
@@ -254,7 +275,10 @@ impl WaitedStream {
     }
 
     // Whether a read that waited so many milliseconds waits no longer.
-    fn is_over(&self, waited: u64) -> bool {
+    fn is_over(&self, waited: u64) -> bool
+        ensures spent { IsSpent self.now.waits.value.patience waited → result ≡ true }
+        ensures endless { self.now.waits.value.patience ≡ Patience.Each 0 → self.now.waits.value.ending ≡ None → result ≡ false }
+    {
         let over = match self.waits.patience {
             Patience::Each(most) => most != 0 && waited >= most,
             Patience::Paced(pace) => pace.is_lost(moment()),
@@ -275,7 +299,9 @@ impl WaitedStream {
         stuck || (self.is_all_over() && !may_try)
     }
 
-    fn is_all_over(&self) -> bool {
+    fn is_all_over(&self) -> bool
+        ensures { self.now.waits.value.ending ≡ None → result ≡ false }
+    {
         match &self.waits.ending {
             Some(ending) => ending.is_over(),
             None => false,
