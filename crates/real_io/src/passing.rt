@@ -1,7 +1,7 @@
 //! Errors of the system that pass.
-ghost use Rattle.std.specs.Prelude.{◌↔◌, IsTrue};
-ghost use Rattle.std.specs.IoError.{raw_os_error};
-ghost use Rattle.real_io.specs.Passing.{IsWanting};
+ghost use Rattle.std.specs.Prelude.{◌≡◌, ◌↔◌, IsTrue};
+ghost use Rattle.std.specs.IoError.{error_kind, raw_os_error};
+ghost use Rattle.real_io.specs.Passing.{IsPassing, IsWanting, passes_as};
 
 use libc::net::poll;
 use std::io;
@@ -19,11 +19,20 @@ pub fn is_wanting(error: &io::Error) -> bool
 }
 
 /// A client that went before it was accepted, or a signal; or what `is_wanting` says.
-pub fn is_passing(error: &io::Error) -> bool {
-    match error.kind() {
+pub fn is_passing(error: &io::Error) -> bool
+    ensures { IsTrue result ↔ IsPassing (error_kind error.now) (raw_os_error error.now) }
+{
+    passes(error.kind()) || is_wanting(error)
+}
+
+// Whether errors of a kind pass, whatever their numbers.
+fn passes(kind: ErrorKind) -> bool
+    ensures { result ≡ passes_as kind }
+{
+    match kind {
         ErrorKind::ConnectionAborted | ErrorKind::ConnectionReset | ErrorKind::Interrupted => true,
         ErrorKind::TimedOut | ErrorKind::OutOfMemory => true,
-        _ => is_wanting(error),
+        _ => false,
     }
 }
 
