@@ -57,10 +57,15 @@ AreEachServed app told [] [] [] = Unit {0}
 AreEachServed app told (b ∷ before) (a ∷ after) (e ∷ ends) = IsServedDoor app told b a e × AreEachServed app told before after ends
 AreEachServed app told _ _ _ = ⊥
 
--- The workers of several doors, by place: `door` and `end` say where a worker stood, and how it ended.
-abbrev pub AreServedDoors : {S C X : Type 0} → AppConfig → Ghosts C X → (S → DoorSide C) → (S → ContainerWorker) → List S → List S → Type 0
-AreServedDoors {S} app told door end before after = (i : ℕ) (s : S) → i < length before
-    → IsServedDoor app told (door (slice_index_or before i s)) (door (slice_index_or after i s)) (end (slice_index_or after i s))
+-- A worker served at the door of this, and nothing else of it changed: `door` is its door, and `with` gives it another one.
+pub record ServesAt {Q D C X : Type 0} (app : AppConfig) (told : Ghosts C X) (at : D → DoorSide C) (door : Q → D) (with : Q → D → Q) (before after : Q) (end : ContainerWorker) : Type 0 where
+  pub served : IsServedDoor app told (at (door before)) (at (door after)) end
+  pub kept : after ≡ with before (door after)
+
+-- The workers of several slots, by place: `holder` and `end` say what a worker served at, and how it ended.
+abbrev pub AreServedDoors : {S Q : Type 0} → (Q → Q → ContainerWorker → Type 0) → (S → Q) → (S → ContainerWorker) → List S → List S → Type 0
+AreServedDoors {S} Serves holder end before after = (i : ℕ) (s : S) → i < length before
+    → Serves (holder (slice_index_or before i s)) (holder (slice_index_or after i s)) (end (slice_index_or after i s))
 
 -- A link was served to this end, and left at the door.
 pub record LeavesServed {C X : Type 0} (app : AppConfig) (told : Ghosts C X) (before after : DoorSide C) (link : C) (end : ContainerEnd) : Type 0 where

@@ -18,6 +18,13 @@ pub type ContainerWorkerList = ListOf<ContainerWorker>;
 /// Doors, in order.
 pub type DoorList<D> = ListOf<D>;
 
+/// How the workers of a run ended, and all that they served at, in order.
+#[derive(Drop)]
+pub struct ContainerRun<Q> {
+    pub workers: ContainerWorkerList,
+    pub back: Vec<Q>,
+}
+
 /// What a run gives back, an item for each worker in each list.
 #[derive(Drop)]
 pub struct ContainerRunEnd<D> {

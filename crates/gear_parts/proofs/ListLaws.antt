@@ -33,12 +33,6 @@ none_left (suc n) len all more = absurd (false≢true (more (omega (arith, all))
 pub none_put : {X Y Z : Type 0} (f : X → Z) (g : Y → Z) (xs : List X) (rest ys : List Y) → xs ≡ [] → rest ≡ ys → map f xs ++ map g rest ≡ map g ys
 none_put f g xs rest ys none all = rw (none, all) refl
 
-pub none_put_as : {X Z : Type 0} (f : X → Z) (xs : List X) (rest ys : List Z) → xs ≡ [] → rest ≡ ys → map f xs ++ rest ≡ ys
-none_put_as f xs rest ys none all = rw (none, all) refl
-
-pub none_put_of : {Y Z : Type 0} (g : Y → Z) (xs : List Z) (rest ys : List Y) → xs ≡ [] → rest ≡ ys → xs ++ map g rest ≡ map g ys
-none_put_of g xs rest ys none all = rw (none, all) refl
-
 -- One more of what is put.
 pub one_put : {X Y Z : Type 0} (f : X → Z) (g : Y → Z) (xs xs' : List X) (x : X) (rest rest' : List Y) (y : Y) (all : List Z)
     → map f xs ++ map g rest ≡ all → rest ≡ y ∷ rest' → xs' ≡ xs ++ x ∷ [] → f x ≡ g y → map f xs' ++ map g rest' ≡ all
@@ -50,31 +44,9 @@ one_put {X} {Y} {Z} f g xs xs' x rest rest' y all so_far is more same =
     ∙ ap (λ (ys : List Y). map f xs ++ map g ys) (sym is)
     ∙ so_far
 
-pub one_put_as : {X Z : Type 0} (f : X → Z) (xs xs' : List X) (x : X) (rest rest' : List Z) (z : Z) (all : List Z)
-    → map f xs ++ rest ≡ all → rest ≡ z ∷ rest' → xs' ≡ xs ++ x ∷ [] → f x ≡ z → map f xs' ++ rest' ≡ all
-one_put_as {X} {Z} f xs xs' x rest rest' z all so_far is more same =
-    ap (λ (items : List X). map f items ++ rest') more
-    ∙ ap (λ (zs : List Z). zs ++ rest') (map-append f xs (x ∷ []))
-    ∙ append_assoc (map f xs) (f x ∷ []) rest'
-    ∙ ap (λ (y : Z). map f xs ++ y ∷ rest') same
-    ∙ ap (λ (zs : List Z). map f xs ++ zs) (sym is)
-    ∙ so_far
-
-pub one_put_of : {Y Z : Type 0} (g : Y → Z) (xs xs' : List Z) (z : Z) (rest rest' : List Y) (y : Y) (all : List Z)
-    → xs ++ map g rest ≡ all → rest ≡ y ∷ rest' → xs' ≡ xs ++ z ∷ [] → z ≡ g y → xs' ++ map g rest' ≡ all
-one_put_of {Y} {Z} g xs xs' z rest rest' y all so_far is more same =
-    ap (λ (zs : List Z). zs ++ map g rest') more
-    ∙ append_assoc xs (z ∷ []) (map g rest')
-    ∙ ap (λ (x : Z). xs ++ x ∷ map g rest') same
-    ∙ ap (λ (ys : List Y). xs ++ map g ys) (sym is)
-    ∙ so_far
-
 -- lists that give the same are as long
 pub as_long : {X Y Z : Type 0} (f : X → Z) (g : Y → Z) (xs : List X) (ys : List Y) → map f xs ≡ map g ys → length xs ≡ length ys
 as_long f g xs ys same = sym (length-map xs f) ∙ ap length same ∙ length-map ys g
-
-pub as_long_as : {X Y : Type 0} (g : Y → X) (xs : List X) (ys : List Y) → xs ≡ map g ys → length xs ≡ length ys
-as_long_as g xs ys same = ap length same ∙ length-map ys g
 
 -- what was written through a slice of a whole list is the list after it
 pub written_back : {X : Type 0} → (n : ℕ) (new rest : List X) → n ≡ length new → take n (new ++ rest) ≡ new

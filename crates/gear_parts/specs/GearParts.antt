@@ -14,17 +14,8 @@ use Rattle.request_log.specs.LogStates.{LogState}
 use Rattle.request_log.specs.declared.format.Part.{Part as FormatPart}
 use Rattle.gear_parts.specs.GearLogs.{new_log, sink_of}
 use Rattle.gear_parts.specs.declared.world.Gear.{Gear}
-use Rattle.gear_parts.specs.declared.container.Rest.{Rest}
 use Rattle.gear_parts.specs.declared.part.Part.{Part}
 use Rattle.gear_parts.specs.declared.common.Common.{Common}
-
--- ---- a container's gear
-
--- a gear but for its door
-abbrev pub but_door : {D G T K S O : Type 0} → Gear D G T K S O → Rest G T K S O
-but_door gear = record { dial = gear.dial; tape = gear.tape; clock = gear.clock; shelf = gear.shelf; log = gear.log }
-
--- ---- a connector's gear
 
 -- a desk, whatever its number at its lock and the openings behind it
 abbrev pub unnumbered : {S : Type 0} → SharedState S → SharedState S

@@ -6,9 +6,9 @@
 //! Contract: the trait `World`; `take_gears`, clauses `taken`, `made`, `suited` and `refused`, and `give_back`, clause `came_back`;
 //! `first_moment`, clauses `given` and `started`; `part_of`, and `gear_of`, clauses `gear` and `desk`;
 //! `log_gears`, clauses `given` and `refused`;
-//! `keep_on_first`, clauses `kept` and `front`; `contain_gears`, clause `ran`. Read first: src/world.rt, specs/Gears.antt,
+//! `keep_on_first`, clauses `kept` and `front`. Read first: src/world.rt, specs/Gears.antt,
 //! specs/Worlds.antt; then specs/Starts.antt, specs/GearParts.antt, specs/Cuts.antt and specs/Containers.antt.
-//! Errors: `IoError` of the world or a shelf; a container's run has want of memory alone, after which no gear comes back.
+//! Errors: `IoError` of the world or a shelf.
 #![tactic(auto)]
 
 mod common;
@@ -26,7 +26,6 @@ mod worker_log;
 mod world;
 
 pub use common::Common;
-pub use container::{ContainerRun, contain_gears};
 pub use gear_log::GearLog;
 pub use gears::{GearOf, give_back, take_gears};
 pub use keeping::keep_on_first;

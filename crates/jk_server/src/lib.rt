@@ -3,7 +3,7 @@
 //! Source: own rules for the causes of a worker's end, what is done between two sessions, the order of a run's closing, and the
 //! statuses of both orders (docs/DECISIONS.md).
 //! Contract: `serve`, clauses `serves` and `refused`, and `contain`, clause `contains`, over a world that hands out gears; below them
-//! `serve_gears`, and `contain_gears` of gear_parts, clauses `ran` and `unasked`, for gears; `serve_part`, clauses `served`, `fit`
+//! `serve_gears`, clauses `ran` and `unasked`, and `serve_doors` of ajp_container, for gears; `serve_part`, clauses `served`, `fit`
 //! and `parts`, for a part; `run_container` of ajp_container for containers. Read first: specs/Commands.antt; then
 //! specs/Runs.antt, over specs/Served.antt and client_session's specs/Sessions.antt; specs/Closings.antt, and gear_parts'
 //! specs/Containers.antt.
@@ -22,7 +22,7 @@ mod workers;
 pub use ajp_container::{
     ContainerRunEnd, ContainerWorker, ContainerWorkerList, DoorList, run_container,
 };
-pub use gear_parts::{ContainerRun, GearOrder, Part, contain_gears};
+pub use gear_parts::{GearOrder, Part};
 pub use orders::container::{ContainerOrder, contain};
 pub use orders::ends::CommandEnd;
 pub use orders::serve::{ServeRun, cut_at, serve};

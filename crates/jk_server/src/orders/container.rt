@@ -4,8 +4,8 @@ ghost use Rattle.jk_cli.specs.declared.ranges.TheConstants.{MOST_ROUTE_BYTES};
 ghost use Rattle.jk_server.specs.Commands.{ContainsAsked, WorksContainer};
 
 use crate::orders::ends::{CommandEnd, NO_MEMORY, end_by, end_of_container};
-use ajp_container::AppConfig;
-use gear_parts::{ContainerRun, GearOrder, ToldWorld, World, contain_gears, give_back, take_gears};
+use ajp_container::{AppConfig, ContainerRun, serve_doors};
+use gear_parts::{GearOf, GearOrder, ToldWorld, World, give_back, take_gears};
 use jk_io::{Bytes, Door, NoMemory};
 use std::alloc::Global;
 use std::marker::Brand;
@@ -43,9 +43,9 @@ where
         Ok(gears) => gears,
         Err(error) => return end_by(error),
     };
-    match contain_gears(rt, alloc, app, gears) {
-        Ok(ContainerRun { workers, gears }) => {
-            give_back(world, gears);
+    match serve_doors::<W::D, GearOf<W>, R>(rt, alloc, app, gears) {
+        Ok(ContainerRun { workers, back }) => {
+            give_back(world, back);
             end_of_container(workers.as_slice())
         }
         Err(gears) => {
