@@ -1,6 +1,6 @@
--- The first refusal of a file, as a call is given it.
-use Rattle.site_config.specs.Refusals.{LineRefusal}
-use Rattle.remarks.specs.declared.refused.FirstRefusal.{FirstRefusal}
+-- The first refused line of a file, as a call is given it.
+use Rattle.std.specs.Prelude.{ℕ, List}
+use Rattle.remarks.specs.declared.refused.FirstRefused.{FirstRefused}
 
-abbrev pub refusal_in : FirstRefusal → LineRefusal
-refusal_in first = record { line = first.line; code = first.code }
+abbrev pub as_first : FirstRefused → ℕ × List ℕ
+as_first first = (first.line, first.words.now)

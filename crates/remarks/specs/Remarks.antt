@@ -2,10 +2,9 @@
 -- mistake, and of files that are accepted, where it is asked for, what has no effect, and that a map has no rule. A file is its
 -- name and its text.
 use Rattle.std.specs.Prelude.{◌≤◌, ℕ, Bool, true, false, List, [], ◌++◌, length}
-use Rattle.site_config.specs.Refusals.{LineRefusal}
+use Rattle.site_config.specs.declared.error.PropsRefusal.{PropsRefusal}
 use Rattle.site_mounts.specs.declared.map_note.MapNote.{MapNote}
 use Rattle.site_mounts.specs.declared.rule.Rule.{Rule}
-use Rattle.site_reports.specs.Found.{workers_refusal}
 use Rattle.site_reports.specs.declared.found.SiteFound.{SiteFound}
 use Rattle.site_reports.specs.declared.found.SiteFound.TheVariants as found
 use Rattle.site_reports.specs.declared.no_effect.WorkersNote.{WorkersNote}
@@ -29,12 +28,12 @@ rules_remarks true file notes rules = effect_words file notes rules
 rules_remarks false file notes rules = []
 
 -- what is wrong with the workers together, told where no line is refused by itself
-abbrev pub together : (by_line : Bool) → (workers : List ℕ × List ℕ) → LineRefusal → List ℕ
+abbrev pub together : (by_line : Bool) → (workers : List ℕ × List ℕ) → PropsRefusal → List ℕ
 together true workers r = []
 together false workers r = explained_workers workers.0 workers.1 r
 
 -- of a workers.properties that is refused: each line that is refused by itself, or else what is wrong with the workers together
-abbrev pub workers_refusals : (workers : List ℕ × List ℕ) → LineRefusal → List ℕ
+abbrev pub workers_refusals : (workers : List ℕ × List ℕ) → PropsRefusal → List ℕ
 workers_refusals workers r =
     refused_lines wrong_line workers.0 workers.1 ++ together (is_refused_by_line wrong_line workers.1) workers r
 
@@ -43,7 +42,7 @@ workers_refusals workers r =
 abbrev pub remarks_of : (effects : Bool) → (workers map : List ℕ) → SiteFound → List ℕ
 remarks_of effects workers map (found.Workers w) = workers_remarks effects workers w.notes
 remarks_of effects workers map (found.Site s) = workers_remarks effects workers s.workers.notes ++ rules_remarks effects map s.notes s.rules
-remarks_of effects workers map (found.WorkersRefused r) = workers_refusals (workers, r.text) (workers_refusal r)
+remarks_of effects workers map (found.WorkersRefused r) = workers_refusals (workers, r.text) r.refusal
 remarks_of effects workers map (found.MapRefused r) =
     workers_remarks effects workers r.workers.notes ++ refused_lines (wrong_rule r.workers.config) map r.text
 

@@ -1,12 +1,12 @@
 //! A refused line explained: in words what is wrong with it, and the line as it stands.
-ghost use Rattle.std.specs.Prelude.{◌≡◌, ◌++◌, codes, OnOk};
-ghost use Rattle.site_config.specs.Refusals.{LineRefusal};
-ghost use Rattle.remarks.specs.Explained.{explained_workers, line_at, map_words, said_of, told_of, workers_words};
+ghost use Rattle.std.specs.Prelude.{◌≡◌, ◌++◌, OnOk};
+ghost use Rattle.remarks.specs.Explained.{explained_workers, line_at, map_words, said_of, workers_words};
 
 use crate::site_file::SiteFile;
-use crate::wanted::wanted_of;
+use crate::wanted::wanted_by;
 use jk_io::{Bytes, NoMemory, put_decimal};
-use site_config::{first_line, without_mark};
+use site_config::{PropsReason, PropsRefusal, first_line, without_mark};
+use site_mounts::MapReason;
 
 /// A line of a file, from 1.
 #[derive(Clone, Copy)]
@@ -49,43 +49,45 @@ fn line_at(text: &[u8], line: u32) -> &[u8]
     &[]
 }
 
-/// What is wrong with a line of a workers.properties, by the number of its refusal.
-pub(crate) fn workers_words(line: &[u8], code: u8) -> &'static [u8]
-    ensures { result.now ≡ workers_words line.now code }
+/// What is wrong with a line of a workers.properties.
+pub(crate) fn workers_words(reason: PropsReason) -> &'static [u8]
+    ensures { result.now ≡ workers_words reason }
 {
-    if code == 1 {
-        b"the line must be KEY=VALUE, or a comment, which begins with #: "
-    } else if code == 2 {
-        b"a worker's name must have letters, digits, - and _ alone: "
-    } else if code == 3 {
-        b"a worker in this list has no line worker.NAME.DIRECTIVE=VALUE: "
-    } else if code == 4 {
-        wanted_of(line)
-    } else if code == 5 {
-        b"a worker of type lb must have members in balance_workers: "
-    } else if code == 6 {
-        b"a worker of type lb must have at most 64 members: "
-    } else if code == 7 {
-        b"the lbfactors of the members must have a common multiple below 4294967296: "
-    } else if code == 8 {
-        b"a reference must lead to a worker that has directives, and in no circle: "
-    } else {
-        b""
+    match reason {
+        PropsReason::NoEquals => {
+            b"the line must be KEY=VALUE, or a comment, which begins with #: "
+        }
+        PropsReason::BadName => b"a worker's name must have letters, digits, - and _ alone: ",
+        PropsReason::UnknownWorker => {
+            b"a worker in this list has no line worker.NAME.DIRECTIVE=VALUE: "
+        }
+        PropsReason::BadValue(directive) => wanted_by(directive),
+        PropsReason::BadPeriod => b"the value must be a number from 1 to 86400: ",
+        PropsReason::TooManyBalancers => b"there must be at most 1024 balancers: ",
+        PropsReason::NoAjp13 => b"each worker in this list must be of type ajp13: ",
+        PropsReason::NoMembers => { b"a worker of type lb must have members in balance_workers: " }
+        PropsReason::TooManyMembers => b"a worker of type lb must have at most 64 members: ",
+        PropsReason::TooWide => {
+            b"the lbfactors of the members must have a common multiple below 4294967296: "
+        }
+        PropsReason::BadReference => {
+            b"a reference must lead to a worker that has directives, and in no circle: "
+        }
     }
 }
 
-/// What is wrong with a line of a uriworkermap.properties, by the number of its refusal.
-pub(crate) fn map_words(code: u8) -> &'static [u8]
-    ensures { result.now ≡ map_words code }
+/// What is wrong with a line of a uriworkermap.properties.
+pub(crate) fn map_words(reason: MapReason) -> &'static [u8]
+    ensures { result.now ≡ map_words reason }
 {
-    if code == 1 {
-        b"the line must be /PATH=WORKER with at most one |, or a comment, which begins with #: "
-    } else if code == 2 {
-        b"the worker must stand in worker.list: "
-    } else if code == 3 {
-        b"after the worker must come ;NAME=VALUE, for sticky_ignore a truth value, for disabled and stopped members of it, for reply_timeout milliseconds from 0 to 86400000: "
-    } else {
-        b""
+    match reason {
+        MapReason::BadPattern => {
+            b"the line must be /PATH=WORKER with at most one |, or a comment, which begins with #: "
+        }
+        MapReason::UnknownWorker => b"the worker must stand in worker.list: ",
+        MapReason::BadExtension => {
+            b"after the worker must come ;NAME=VALUE, for sticky_ignore a truth value, for disabled and stopped members of it, for reply_timeout milliseconds from 0 to 86400000: "
+        }
     }
 }
 
@@ -93,16 +95,15 @@ pub(crate) fn map_words(code: u8) -> &'static [u8]
 pub(crate) fn explain_workers(
     out: &mut Bytes,
     workers: &SiteFile<'_>,
-    line: u32,
-    code: u8,
+    refusal: PropsRefusal,
 ) -> Result<(), NoMemory>
     ensures { OnOk result (out.new ≡ out.old
-        ++ explained_workers workers.now.name.now workers.now.text.now (record { line = line; code = code })) }
+        ++ explained_workers workers.now.name.now workers.now.text.now refusal) }
 {
-    let text = line_at(workers.text, line);
     let at = FileLine {
         file: workers.name,
-        line,
+        line: refusal.line,
     };
-    put_said(out, at, workers_words(text, code), text)
+    let text = line_at(workers.text, refusal.line);
+    put_said(out, at, workers_words(refusal.reason), text)
 }

@@ -4,14 +4,14 @@ ghost use Rattle.std.specs.Option.{option_map};
 ghost use Rattle.jk_io.specs.declared.whole_input.TheConstants.{MAX_INPUT_BYTES};
 ghost use Rattle.remarks.specs.Added.{Adds};
 ghost use Rattle.remarks.specs.Explained.{said_of};
-ghost use Rattle.remarks.specs.Firsts.{refusal_in};
-ghost use Rattle.remarks.specs.Refused.{IsKnown, code_by, first_in, line_code, refused_lines, told_if, words_by, wrong_by};
+ghost use Rattle.remarks.specs.Firsts.{as_first};
+ghost use Rattle.remarks.specs.Refused.{IsKnown, first_in, refused_lines, told_if, wrong_by, wrong_line, wrong_rule};
 
 use crate::explain::{FileLine, map_words, put_said, workers_words};
 use crate::remark_out::RemarkOut;
 use crate::site_file::SiteFile;
 use jk_io::{Bytes, IoError, NoMemory, Sink, trim};
-use site_config::{PropsError, first_line, said, without_mark};
+use site_config::{first_line, said, without_mark};
 use site_mounts::{Workers, refusal_of};
 use std::alloc::Global;
 
@@ -24,65 +24,70 @@ pub(crate) enum Judge<'a, 'c> {
     Map(&'a Workers<'c>),
 }
 
-/// The first refusal of a file.
+/// The first line of a file that is refused, and what is wrong with it.
 #[derive(Clone, Copy)]
-pub(crate) struct FirstRefusal {
+pub(crate) struct FirstRefused {
     pub(crate) line: u32,
-    pub(crate) code: u8,
+    pub(crate) words: &'static [u8],
 }
 
-fn line_code(number: u32, line: &[u8]) -> Result<Option<u8>, NoMemory>
-    ensures { IfOk result (λ code. code ≡ line_code number line.now) }
+/// What is wrong with a line of a workers.properties by itself, if something is.
+fn wrong_line(number: u32, line: &[u8]) -> Option<&'static [u8]>
+    ensures { option_map (λ words. words.now) result ≡ wrong_line number line.now }
 {
     match said(true, number, trim(line)) {
-        Ok(_) => Ok(None),
-        Err(PropsError::Refused { code, .. }) => Ok(Some(code)),
-        Err(PropsError::NoMemory) => Err(NoMemory),
+        Ok(_) => None,
+        Err(refusal) => Some(workers_words(refusal.reason)),
     }
 }
 
-/// The number for which a line is refused by itself, if it is.
-fn code_by(
+/// What is wrong with a line of a uriworkermap.properties, if something is.
+fn wrong_rule(
+    alloc: Global,
+    workers: &Workers<'_>,
+    number: u32,
+    line: &[u8],
+) -> Result<Option<&'static [u8]>, NoMemory>
+    ensures { IfOk result (λ wrong. option_map (λ words. words.now) wrong ≡ wrong_rule workers.now number line.now) }
+{
+    match refusal_of(alloc, workers, number, trim(line))? {
+        None => Ok(None),
+        Some(reason) => Ok(Some(map_words(reason))),
+    }
+}
+
+/// What is wrong with a line by itself, if something is.
+fn wrong_by(
     alloc: Global,
     judge: Judge<'_, '_>,
     number: u32,
     line: &[u8],
-) -> Result<Option<u8>, NoMemory>
-    ensures { IfOk result (λ code. code ≡ code_by judge.entry number line.now) }
+) -> Result<Option<&'static [u8]>, NoMemory>
+    ensures { IfOk result (λ wrong. option_map (λ words. words.now) wrong ≡ wrong_by judge.entry number line.now) }
 {
     match judge {
-        Judge::Workers => line_code(number, line),
-        Judge::Map(workers) => refusal_of(alloc, workers, number, trim(line)),
+        Judge::Workers => Ok(wrong_line(number, line)),
+        Judge::Map(workers) => wrong_rule(alloc, workers, number, line),
     }
 }
 
-/// The same where the first refusal of the file is known: up to that line none is judged again.
-fn code_after(
+/// The same where the first refused line of the file is known: up to that line none is judged again.
+fn wrong_after(
     alloc: Global,
     judge: Judge<'_, '_>,
-    first: FirstRefusal,
+    first: FirstRefused,
     number: u32,
     line: &[u8],
-) -> Result<Option<u8>, NoMemory>
-    requires { IsKnown (refusal_in first) number (code_by judge number line.now) }
-    ensures { IfOk result (λ code. code ≡ code_by judge.entry number line.now) }
+) -> Result<Option<&'static [u8]>, NoMemory>
+    requires { IsKnown (as_first first) number (wrong_by judge number line.now) }
+    ensures { IfOk result (λ wrong. option_map (λ words. words.now) wrong ≡ wrong_by judge.entry number line.now) }
 {
     if number < first.line {
         Ok(None)
     } else if number == first.line {
-        Ok(Some(first.code))
+        Ok(Some(first.words))
     } else {
-        code_by(alloc, judge, number, line)
-    }
-}
-
-/// What is wrong with a line that is refused for this number.
-fn words_by(judge: Judge<'_, '_>, line: &[u8], code: u8) -> &'static [u8]
-    ensures { result.now ≡ words_by judge.entry line.now code }
-{
-    match judge {
-        Judge::Workers => workers_words(line, code),
-        Judge::Map(_) => map_words(code),
+        wrong_by(alloc, judge, number, line)
     }
 }
 
@@ -101,21 +106,20 @@ fn put_told<O: Sink + Drop>(
     out.put(buffer.as_slice())
 }
 
-/// Adds what is wrong with a line, if it is refused.
+/// Adds what is wrong with a line, if something is.
 fn put_wrong<O: Sink + Drop>(
     out: &mut RemarkOut<O>,
     buffer: &mut Bytes,
-    judge: Judge<'_, '_>,
     at: FileLine<'_>,
     line: &[u8],
-    code: Option<u8>,
+    wrong: Option<&[u8]>,
 ) -> Result<(), IoError>
     ensures { Adds result out.old out.new
-        (told_if at.entry.file.now at.entry.line line.now (option_map (words_by judge.entry line.now) code)) }
+        (told_if at.entry.file.now at.entry.line line.now (option_map (λ words. words.now) wrong.entry)) }
 {
-    match code {
+    match wrong {
         None => Ok(()),
-        Some(code) => put_told(out, buffer, at, line, words_by(judge, line, code)),
+        Some(words) => put_told(out, buffer, at, line, words),
     }
 }
 
@@ -125,10 +129,10 @@ pub(crate) fn put_refused<O: Sink + Drop>(
     out: &mut RemarkOut<O>,
     judge: Judge<'_, '_>,
     file: &SiteFile<'_>,
-    first: FirstRefusal,
+    first: FirstRefused,
 ) -> Result<(), IoError>
     requires short { length file.now.text.now ≤ MAX_INPUT_BYTES }
-    requires first { first_in (code_by judge) file.now.text.now ≡ Some (refusal_in first) }
+    requires first { first_in (wrong_by judge) file.now.text.now ≡ Some (as_first first) }
     ensures { Adds result out.old out.new (refused_lines (wrong_by judge.entry) file.now.name.now file.now.text.now) }
 {
     let mut buffer = Bytes::new(alloc);
@@ -136,12 +140,12 @@ pub(crate) fn put_refused<O: Sink + Drop>(
     let mut rest = without_mark(file.text);
     while let Some((line, behind)) = first_line(rest) {
         number += 1;
-        let code = code_after(alloc, judge, first, number, line)?;
+        let wrong = wrong_after(alloc, judge, first, number, line)?;
         let at = FileLine {
             file: file.name,
             line: number,
         };
-        put_wrong(out, &mut buffer, judge, at, line, code)?;
+        put_wrong(out, &mut buffer, at, line, wrong)?;
         rest = behind;
     }
     Ok(())

@@ -1,23 +1,21 @@
 //! Remarks on a site's files: why they are refused, and what of those that are accepted has no effect.
 ghost use Rattle.std.specs.Prelude.{◌≡◌, Err};
 ghost use Rattle.site_mounts.specs.Lines.{read_text};
-ghost use Rattle.site_reports.specs.Found.{workers_refusal};
 ghost use Rattle.site_reports.specs.declared.found.SiteFound.TheVariants as found;
 ghost use Rattle.remarks.specs.Explained.{explained_workers};
 ghost use Rattle.remarks.specs.Added.{Adds};
-ghost use Rattle.remarks.specs.Firsts.{refusal_in};
 ghost use Rattle.remarks.specs.Refused.{refused_lines, wrong_rule};
 ghost use Rattle.remarks.specs.Remarks.{IsShortFile, remarks_of, workers_refusals, workers_remarks};
 
-use crate::explain::explain_workers;
+use crate::explain::{explain_workers, map_words, workers_words};
 use crate::notices::put_notices;
-use crate::refused::{FirstRefusal, Judge, put_refused};
+use crate::refused::{FirstRefused, Judge, put_refused};
 use crate::remark_out::RemarkOut;
 use crate::site_effects::effects_on;
 use crate::site_file::{SiteFile, SiteNames};
 use jk_io::{Bytes, IoError, Sink};
-use site_config::Config;
-use site_mounts::Workers;
+use site_config::{Config, PropsRefusal};
+use site_mounts::{MapRefusal, Workers};
 use site_reports::{
     AcceptedSite, AcceptedWorkers, RefusedMap, RefusedPart, RefusedWorkers, SiteFound,
 };
@@ -29,14 +27,18 @@ fn put_map_refusals<O: Sink + Drop>(
     out: &mut RemarkOut<O>,
     config: &Config,
     map: &SiteFile<'_>,
-    first: FirstRefusal,
+    refusal: MapRefusal,
 ) -> Result<(), IoError>
     requires short { IsShortFile map.now }
-    requires first { read_text config.now map.now.text.now ≡ Err (refusal_in first) }
+    requires first { read_text config.now map.now.text.now ≡ Err refusal }
     ensures { Adds result out.old out.new
         (refused_lines (wrong_rule config.now) map.now.name.now map.now.text.now) }
 {
     let workers = Workers::new(alloc, config)?;
+    let first = FirstRefused {
+        line: refusal.line,
+        words: map_words(refusal.reason),
+    };
     put_refused(alloc, out, Judge::Map(&workers), map, first)
 }
 
@@ -45,14 +47,13 @@ fn put_workers_refusal<O: Sink + Drop>(
     alloc: Global,
     out: &mut RemarkOut<O>,
     workers: &SiteFile<'_>,
-    line: u32,
-    code: u8,
+    refusal: PropsRefusal,
 ) -> Result<(), IoError>
     ensures { Adds result out.old out.new
-        (explained_workers workers.now.name.now workers.now.text.now (record { line = line; code = code })) }
+        (explained_workers workers.now.name.now workers.now.text.now refusal) }
 {
     let mut said = Bytes::new(alloc);
-    explain_workers(&mut said, workers, line, code)?;
+    explain_workers(&mut said, workers, refusal)?;
     out.put(said.as_slice())
 }
 
@@ -89,11 +90,7 @@ fn put_refused_map<O: Sink + Drop>(
         name: names.map,
         text: refused.text.as_slice(),
     };
-    let first = FirstRefusal {
-        line: refused.line,
-        code: refused.code,
-    };
-    put_map_refusals(alloc, out, &refused.workers.config, &file, first)
+    put_map_refusals(alloc, out, &refused.workers.config, &file, refused.refusal)
 }
 
 /// Adds what is said of files that are accepted.
@@ -121,19 +118,20 @@ fn put_refused_workers<O: Sink + Drop>(
     name: &[u8],
     refused: &RefusedWorkers,
 ) -> Result<(), IoError>
-    ensures { Adds result out.old out.new (workers_refusals (name.now, refused.now.text) (workers_refusal refused.now)) }
+    ensures { Adds result out.old out.new (workers_refusals (name.now, refused.now.text) refused.now.refusal) }
 {
     let file = SiteFile {
         name,
         text: refused.text.as_slice(),
     };
-    let first = FirstRefusal {
-        line: refused.line,
-        code: refused.code,
+    let refusal = refused.refusal;
+    let first = FirstRefused {
+        line: refusal.line,
+        words: workers_words(refusal.reason),
     };
     match refused.part {
         RefusedPart::Line => put_refused(alloc, out, Judge::Workers, &file, first),
-        RefusedPart::Workers => put_workers_refusal(alloc, out, &file, first.line, first.code),
+        RefusedPart::Workers => put_workers_refusal(alloc, out, &file, refusal),
     }
 }
 

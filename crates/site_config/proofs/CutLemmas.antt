@@ -1,5 +1,5 @@
 -- Where a text is cut: at the first byte that passes.
-use Rattle.std.proofs.Common.{◌≡◌, ℕ, ◌+◌, ◌-◌, ◌<◌, Bool, true, false, List, [], ◌∷◌, length, get_or, take, drop, Option, Some, None, suc, zero, arith, refl, sym, add-one, cond, subst}
+use Rattle.std.proofs.Common.{◌≡◌, ℕ, ◌+◌, ◌-◌, ◌<◌, Bool, true, false, List, [], ◌∷◌, length, get_or, take, drop, Option, Some, None, suc, zero, arith, refl, add-one, cond, subst}
 use Rattle.std.proofs.lemmas.List.{take_rest}
 use Rattle.std.specs.Option.{option_map}
 use Rattle.site_config.specs.Cut.{cut, onto_name}

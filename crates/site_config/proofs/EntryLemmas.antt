@@ -4,9 +4,9 @@ use Rattle.std.proofs.lemmas.List.{append_assoc}
 use Rattle.jk_io.specs.Decimals.{trimmed}
 use Rattle.site_config.specs.declared.property.Property.{Property}
 use Rattle.site_config.specs.Properties.{read_lines, said, with_properties}
-use Rattle.site_config.specs.Refusals.{LineRefusal}
+use Rattle.site_config.specs.declared.error.PropsRefusal.{PropsRefusal}
 
-one_more : (front : List Property) (p : Property) (read : Result (List Property) LineRefusal) → with_properties (front ++ p ∷ []) read ≡ with_properties front (with_properties (p ∷ []) read)
+one_more : (front : List Property) (p : Property) (read : Result (List Property) PropsRefusal) → with_properties (front ++ p ∷ []) read ≡ with_properties front (with_properties (p ∷ []) read)
 one_more front p (Ok ps) = ap (λ (qs : List Property). Ok qs) (append_assoc front (p ∷ []) ps)
 one_more front p (Err refused) = refl
 

@@ -1,11 +1,11 @@
 -- The first line of a text, and the lines after it.
-use Rattle.std.proofs.Common.{◌≡◌, ◌≢◌, ℕ, ◌+◌, ◌<◌, Bool, true, false, List, [], ◌∷◌, ◌++◌, length, Option, Some, None, suc, zero, arith, refl, inl, inr, ◌⊎◌, ⊎_elim, cond, eqb, ◌&&◌, ap, sym, subst, ◌∙◌, eq-eqb, eqb-true}
+use Rattle.std.proofs.Common.{◌≡◌, ◌≢◌, ℕ, ◌<◌, Bool, true, false, List, [], ◌∷◌, ◌++◌, length, Option, Some, None, arith, refl, inl, inr, ◌⊎◌, ⊎_elim, cond, eqb, ◌&&◌, ap, sym, subst, ◌∙◌, eq-eqb, eqb-true}
 use Rattle.std.proofs.Math.Bool.{and-false}
 use Rattle.std.proofs.lemmas.Option.{some_pair_parts}
 use Rattle.std.proofs.lemmas.Bool.{and_cases, and_parts, false≢true}
 use Rattle.std.specs.Option.{option_map}
 use Rattle.std.specs.List.{onto_first}
-use Rattle.site_config.specs.Cut.{cut, cut_at, onto_name}
+use Rattle.site_config.specs.Cut.{cut_at, onto_name}
 use Rattle.site_config.specs.Lines.{lines, begins_with, without_return}
 
 -- a cut after the first byte

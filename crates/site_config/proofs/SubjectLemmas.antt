@@ -1,5 +1,5 @@
 -- A line by the subject of its key: the list of workers, the maintenance, a worker's directive, or nothing.
-use Rattle.std.proofs.Common.{◌≡◌, ◌≢◌, Bool, true, false, List, ℕ, Option, Some, None, Bor, refl, sym, ◌∙◌, ap, cond, eqb, eqb-true, eq-eqb}
+use Rattle.std.proofs.Common.{◌≡◌, Bool, true, false, List, ℕ, Option, Some, None, Bor, refl, sym, ◌∙◌, ap, cond, eqb, eqb-true, eq-eqb}
 use Rattle.std.proofs.lemmas.Bool.{false_from_ne_true, false≢true}
 use Rattle.std.proofs.lemmas.Option.{none-some, same_Some}
 use Rattle.std.proofs.lemmas.Slice.Eq.{bytes_eq-Decides}
@@ -12,7 +12,7 @@ use Rattle.site_config.specs.declared.subject.Subject.TheVariants as subject
 use Rattle.site_config.specs.Directives.{directive_of, list_key, maintain_key, name_of, slot_of, worker_part, worker_prefix}
 use Rattle.site_config.specs.Meanings.{given_value, meaning_of, names_directive, value_of}
 use Rattle.site_config.specs.Names.{is_name}
-use Rattle.site_config.specs.Properties.{are_names, directive_fault, fault_of, name_fault, value_fault}
+use Rattle.site_config.specs.Properties.{are_names, directive_fault, fault_of, name_fault, period_fault}
 use Rattle.site_config.specs.Subjects.{GivesWorker, IsSubject, is_directive, is_of, with_directive, worker_given}
 use Rattle.site_config.proofs.DirectiveLemmas.{name_of-none, name_of-other, name_of-same, same_slot}
 
@@ -125,7 +125,7 @@ some_map f (Some x) = refl
 pub list_fault : (key text : List ℕ) → IsSubject key subject.List → name_fault (are_names text) ≡ fault_of key text
 list_fault key text h = rw (no_parts key h.worker, sym h.list) refl
 
-pub maintain_fault : (key text : List ℕ) → IsSubject key subject.Maintain → value_fault (is_some (meaning_of subject.Maintain text)) ≡ fault_of key text
+pub maintain_fault : (key text : List ℕ) → IsSubject key subject.Maintain → period_fault (is_some (meaning_of subject.Maintain text)) ≡ fault_of key text
 maintain_fault key text h = rw (no_parts key h.worker, sym h.list, sym h.maintain, some_map) refl
 
 pub worker_fault : (key text : List ℕ) (name : Bor (List ℕ)) (d : Option Directive) → IsSubject key (subject.Worker name d) → cond (is_name name.now) (directive_fault d (given_value d text) text) (Some fault.Name) ≡ fault_of key text

@@ -1,8 +1,7 @@
 -- The words of a list, one after another.
-use Rattle.std.proofs.Common.{◌≡◌, ℕ, ◌<◌, Bool, true, false, List, [], ◌∷◌, length, Option, Some, None, refl, inl, inr, cond, filter, nat_lt, ◌++◌}
-use Rattle.std.proofs.lemmas.Bool.{cases_Bool}
+use Rattle.std.proofs.Common.{◌≡◌, ℕ, Bool, true, false, List, [], ◌∷◌, length, Option, Some, None, refl, cond, nat_lt, ◌++◌}
 use Rattle.std.specs.Option.{option_map}
-use Rattle.std.specs.List.{slice_split, onto_first}
+use Rattle.std.specs.List.{slice_split}
 use Rattle.site_config.specs.Cut.{cut, onto_name, is_separator}
 use Rattle.site_config.specs.Names.{words, word_first}
 

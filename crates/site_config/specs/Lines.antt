@@ -1,5 +1,5 @@
 -- The lines of a site's file. A line ends with LF or CR LF, and the last one may end with the text.
-use Rattle.std.specs.Prelude.{ℕ, Bool, true, false, List, [], ◌∷◌, bytes_eq, drop, take, if◌then◌else◌, ◌==◌, ◌&&◌}
+use Rattle.std.specs.Prelude.{ℕ, Bool, false, List, [], ◌∷◌, bytes_eq, drop, take, if◌then◌else◌, ◌==◌, ◌&&◌}
 use Rattle.std.specs.List.{onto_first}
 
 abbrev pub begins_with : ℕ → List ℕ → Bool

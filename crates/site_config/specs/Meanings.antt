@@ -11,7 +11,7 @@ use Rattle.site_config.specs.declared.subject.Subject.TheVariants as subject
 use Rattle.site_config.specs.declared.value.Value.{Value}
 use Rattle.site_config.specs.declared.value.Value.TheVariants as value
 use Rattle.site_config.specs.Directives.{name_of, worker_part}
-use Rattle.site_config.specs.Values.{activation_of, is_ping, kind_of, method_of, number_in, statuses_of, target_of, truth_of}
+use Rattle.site_config.specs.Values.{activation_of, kind_of, method_of, number_in, pings_of, statuses_of, target_of, truth_of}
 
 -- the least and the greatest number that a directive takes, where its values are numbers
 abbrev pub range_of : Directive → Option (ℕ × ℕ)
@@ -56,7 +56,7 @@ abbrev pub other_value : Directive → List ℕ → Option Value
 other_value directive.Kind text = option_map value.Kind (kind_of text)
 other_value directive.Reference text = text_if (is_some (target_of text))
 other_value directive.Activation text = option_map value.Activation (activation_of text)
-other_value directive.PingMode text = text_if (is_ping text)
+other_value directive.PingMode text = option_map value.Pings (pings_of text)
 other_value directive.FailOnStatus text = text_if (is_some (statuses_of text))
 other_value directive.Method text = option_map value.Method (method_of text)
 other_value directive.Sticky text = option_map value.Truth (truth_of text)

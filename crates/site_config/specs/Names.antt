@@ -1,5 +1,5 @@
 -- Names of workers, and lists of names.
-use Rattle.std.specs.Prelude.{ℕ, Bool, List, [], ◌∷◌, ◌==◌, ◌||◌, ◌&&◌, nat_le, nat_lt, length, filter, if◌then◌else◌}
+use Rattle.std.specs.Prelude.{ℕ, Bool, List, ◌∷◌, ◌==◌, ◌||◌, ◌&&◌, nat_le, nat_lt, length, filter, if◌then◌else◌}
 use Rattle.std.specs.List.{slice_split, list_all}
 use Rattle.site_config.specs.Cut.{is_separator}
 

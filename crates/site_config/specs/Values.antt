@@ -9,6 +9,7 @@ use Rattle.lb_model.specs.declared.member.Activation.{Activation}
 use Rattle.lb_model.specs.declared.member.Activation.TheVariants as activation
 use Rattle.lb_model.specs.declared.member.Method.{Method}
 use Rattle.lb_model.specs.declared.member.Method.TheVariants as method
+use Rattle.site_config.specs.declared.values.Pings.{Pings}
 use Rattle.site_config.specs.declared.values.WorkerKind.{WorkerKind}
 use Rattle.site_config.specs.declared.values.WorkerKind.TheVariants as kind
 use Rattle.site_config.specs.Directives.{behind_worker}
@@ -69,8 +70,12 @@ abbrev pub is_ping : List ℕ → Bool
 is_ping text = list_all is_ping_letter text
 
 -- the letter stands there, or A, which is all of them
-abbrev pub pings : ℕ → List ℕ → Bool
-pings letter text = list_any (λ b. (lower b == letter) || (lower b == 97)) text
+abbrev pub asks_ping : ℕ → List ℕ → Bool
+asks_ping letter text = list_any (λ b. (lower b == letter) || (lower b == 97)) text
+
+-- when a member is pinged, by the letters that stand there and no others
+abbrev pub pings_of : List ℕ → Option Pings
+pings_of text = if is_ping text then Some (record { dialled = asks_ping 99 text; each = asks_ping 112 text; idle = asks_ping 105 text }) else None
 
 -- a status that counts as a failure, and whether a '-' stands before it
 abbrev pub status_of : List ℕ → Option (ℕ × Bool)

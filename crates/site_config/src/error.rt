@@ -1,8 +1,9 @@
 //! Why a workers.properties is refused.
-ghost use Rattle.site_config.specs.Refusals.{code_of};
+ghost use Rattle.site_config.specs.Refusals.{code_of, error_of, refusal};
+ghost use Rattle.site_config.specs.declared.error.WorkersError.TheVariants as errors;
 ghost use Rattle.std.specs.Prelude.{◌≡◌};
-ghost use Rattle.site_config.specs.declared.error.PropsError.TheVariants.{NoMemory};
 
+use crate::directive::Directive;
 use std::alloc::{AllocError, AllocFailed};
 use thiserror::Error;
 
@@ -12,11 +13,34 @@ pub enum PropsReason {
     NoEquals,
     BadName,
     UnknownWorker,
-    BadValue,
+    /// This directive doesn't take the value.
+    BadValue(Directive),
+    /// The value is no number of seconds between two maintenances.
+    BadPeriod,
+    /// The workers listed there make more balancers than a site may have.
+    TooManyBalancers,
+    /// A member that is listed there isn't of type ajp13.
+    NoAjp13,
     NoMembers,
     TooManyMembers,
     TooWide,
     BadReference,
+}
+
+/// A line that is refused, and why.
+#[derive(Clone, Copy)]
+pub struct PropsRefusal {
+    /// From 1.
+    pub line: u32,
+    pub reason: PropsReason,
+}
+
+/// Why lines give no properties or workers.
+#[derive(Clone, Copy)]
+pub enum WorkersError {
+    /// The first refusal.
+    Refused(PropsRefusal),
+    NoMemory,
 }
 
 /// Why there is no configuration.
@@ -32,14 +56,17 @@ pub enum PropsError {
 
 impl PropsReason {
     /// The number of the refusal.
-    fn code(self) -> u8
+    pub fn code(self) -> u8
         ensures { result ≡ code_of self }
     {
         match self {
             PropsReason::NoEquals => 1,
             PropsReason::BadName => 2,
             PropsReason::UnknownWorker => 3,
-            PropsReason::BadValue => 4,
+            PropsReason::BadValue(_)
+            | PropsReason::BadPeriod
+            | PropsReason::TooManyBalancers
+            | PropsReason::NoAjp13 => 4,
             PropsReason::NoMembers => 5,
             PropsReason::TooManyMembers => 6,
             PropsReason::TooWide => 7,
@@ -48,36 +75,62 @@ impl PropsReason {
     }
 }
 
-/// The refusal of a line.
-pub fn refused(line: u32, reason: PropsReason) -> PropsError
-    ensures { result ≡ PropsError.Refused line (code_of reason) }
+/// The refusal of a line for this reason.
+pub(crate) fn refusal(line: u32, reason: PropsReason) -> PropsRefusal
+    ensures { result ≡ refusal line reason }
 {
-    PropsError::Refused {
-        line,
-        code: reason.code(),
+    PropsRefusal { line, reason }
+}
+
+/// The same as an error.
+pub fn refused(line: u32, reason: PropsReason) -> WorkersError
+    ensures { result ≡ WorkersError.Refused (refusal line reason) }
+{
+    WorkersError::Refused(refusal(line, reason))
+}
+
+impl From<PropsRefusal> for WorkersError {
+    ghost from_gives = { λ refusal e. e ≡ errors.Refused refusal };
+
+    fn from(refusal: PropsRefusal) -> WorkersError {
+        WorkersError::Refused(refusal)
     }
 }
 
-impl From<AllocError> for PropsError {
-    ghost from_gives = { λ _ e. e ≡ NoMemory };
+impl From<AllocError> for WorkersError {
+    ghost from_gives = { λ _ e. e ≡ errors.NoMemory };
 
-    fn from(_error: AllocError) -> PropsError {
-        PropsError::NoMemory
+    fn from(_error: AllocError) -> WorkersError {
+        WorkersError::NoMemory
     }
 }
 
-impl<T: Drop> From<AllocFailed<T>> for PropsError {
-    ghost from_gives = { λ _ e. e ≡ NoMemory };
+impl<T: Drop> From<AllocFailed<T>> for WorkersError {
+    ghost from_gives = { λ _ e. e ≡ errors.NoMemory };
 
-    fn from(_error: AllocFailed<T>) -> PropsError {
-        PropsError::NoMemory
+    fn from(_error: AllocFailed<T>) -> WorkersError {
+        WorkersError::NoMemory
     }
 }
 
-impl From<jk_io::NoMemory> for PropsError {
-    ghost from_gives = { λ _ e. e ≡ NoMemory };
+impl From<jk_io::NoMemory> for WorkersError {
+    ghost from_gives = { λ _ e. e ≡ errors.NoMemory };
 
-    fn from(_error: jk_io::NoMemory) -> PropsError {
-        PropsError::NoMemory
+    fn from(_error: jk_io::NoMemory) -> WorkersError {
+        WorkersError::NoMemory
+    }
+}
+
+impl From<WorkersError> for PropsError {
+    ghost from_gives = { λ why e. e ≡ error_of why };
+
+    fn from(error: WorkersError) -> PropsError {
+        match error {
+            WorkersError::Refused(refusal) => PropsError::Refused {
+                line: refusal.line,
+                code: refusal.reason.code(),
+            },
+            WorkersError::NoMemory => PropsError::NoMemory,
+        }
     }
 }

@@ -4,7 +4,7 @@ ghost use Rattle.std.specs.List.{list_all};
 ghost use Rattle.std.specs.Option.{option_map};
 ghost use Rattle.site_config.specs.Directives.{behind_worker};
 ghost use Rattle.site_config.specs.Names.{is_name, words, word_first};
-ghost use Rattle.site_config.specs.Properties.{are_names, name_fault, value_fault, reference_fault, directive_fault, fault_of};
+ghost use Rattle.site_config.specs.Properties.{are_names, name_fault, period_fault, value_fault, reference_fault, directive_fault, fault_of};
 
 use crate::cut::cut_at_separator;
 use crate::directive::{Directive, behind_worker};
@@ -45,17 +45,27 @@ fn name_fault(good: bool) -> Option<Fault>
     if good { None } else { Some(Fault::Name) }
 }
 
-fn value_fault(good: bool) -> Option<Fault>
-    ensures { result ≡ value_fault good }
+fn period_fault(good: bool) -> Option<Fault>
+    ensures { result ≡ period_fault good }
 {
-    if good { None } else { Some(Fault::Value) }
+    if good { None } else { Some(Fault::Period) }
+}
+
+fn value_fault(directive: Directive, good: bool) -> Option<Fault>
+    ensures { result ≡ value_fault directive good }
+{
+    if good {
+        None
+    } else {
+        Some(Fault::Value(directive))
+    }
 }
 
 fn reference_fault(value: &[u8]) -> Option<Fault>
     ensures { result ≡ reference_fault (behind_worker value.now) }
 {
     match behind_worker(value) {
-        None => Some(Fault::Value),
+        None => Some(Fault::Value(Directive::Reference)),
         Some(name) => name_fault(is_name(name)),
     }
 }
@@ -71,7 +81,7 @@ fn directive_fault(
         None => None,
         Some(Directive::Reference) => reference_fault(value),
         Some(Directive::BalanceWorkers) => name_fault(are_names(value)),
-        Some(_) => value_fault(meaning.is_some()),
+        Some(directive) => value_fault(directive, meaning.is_some()),
     }
 }
 
@@ -82,7 +92,7 @@ pub(crate) fn fault_of(entry: &PropertyLine<'_>) -> Option<Fault>
 {
     match entry.subject {
         Subject::List => name_fault(are_names(entry.value)),
-        Subject::Maintain => value_fault(entry.meaning.is_some()),
+        Subject::Maintain => period_fault(entry.meaning.is_some()),
         Subject::Worker { name, directive } => {
             if is_name(name) {
                 directive_fault(directive, entry.meaning, entry.value)

@@ -7,7 +7,7 @@
 //! Shapes: a line ends with LF or CR LF; a property is a line number, a key and a value without outer blanks.
 //! Contract: the types; `Config::find`; `MemberLimits`; `read_properties`. Read first: src/config.rt; for the files
 //! specs/Properties.antt, then specs/Meanings.antt and specs/Values.antt.
-//! Errors: `PropsError` of lines.
+//! Errors: `WorkersError` of lines, with the reason; `PropsError`, with its number.
 #![tactic(auto)]
 
 mod balancer;
@@ -38,7 +38,7 @@ pub use directive::{
     DIRECTIVES, Directive, behind_worker, directive_of, is_list_key, is_maintain_key, worker_part,
 };
 pub use endpoint::{EndList, Endpoint};
-pub use error::{PropsError, PropsReason, refused};
+pub use error::{PropsError, PropsReason, PropsRefusal, WorkersError, refused};
 pub use first_pass::{read_entries, said};
 pub use ignored::IgnoredList;
 pub use limits::MemberLimits;
@@ -50,6 +50,4 @@ pub use property_line::PropertyLine;
 pub use statuses::{Statuses, status_of, statuses_of};
 pub use subject::Subject;
 pub use value::{Value, period_of};
-pub use values::{
-    WorkerKind, activation_of, is_ping, kind_of, method_of, number_in, pings, truth_of,
-};
+pub use values::{Pings, WorkerKind, activation_of, kind_of, method_of, number_in, truth_of};

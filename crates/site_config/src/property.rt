@@ -1,4 +1,5 @@
 //! The properties of a workers.properties, line by line, and what is wrong with one.
+use crate::directive::Directive;
 use jk_io::{Bytes, ListOf};
 
 /// A line that gives a key its value, both without outer blanks.
@@ -17,5 +18,8 @@ pub type PropertyList = ListOf<Property>;
 #[derive(Clone, Copy)]
 pub enum Fault {
     Name,
-    Value,
+    /// Of the seconds between two maintenances.
+    Period,
+    /// Of a directive.
+    Value(Directive),
 }

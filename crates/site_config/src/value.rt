@@ -6,7 +6,9 @@ ghost use Rattle.lb_model.specs.declared.config.TheConstants.{MAX_PERIOD_SECONDS
 use crate::directive::{Directive, behind_worker};
 use crate::statuses::statuses_of;
 use crate::subject::Subject;
-use crate::values::{WorkerKind, activation_of, is_ping, kind_of, method_of, number_in, truth_of};
+use crate::values::{
+    Pings, WorkerKind, activation_of, kind_of, method_of, number_in, pings_of, truth_of,
+};
 use lb_model::{Activation, MAX_PERIOD_SECONDS, Method};
 
 /// What a value means.
@@ -17,6 +19,7 @@ pub enum Value {
     Kind(WorkerKind),
     Activation(Activation),
     Method(Method),
+    Pings(Pings),
     /// A text or a list, which is taken as it stands.
     Text,
 }
@@ -60,7 +63,7 @@ fn other_value(directive: Directive, text: &[u8]) -> Option<Value>
         Directive::Kind => Some(Value::Kind(kind_of(text)?)),
         Directive::Reference => text_if(behind_worker(text).is_some()),
         Directive::Activation => Some(Value::Activation(activation_of(text)?)),
-        Directive::PingMode => text_if(is_ping(text)),
+        Directive::PingMode => Some(Value::Pings(pings_of(text)?)),
         Directive::FailOnStatus => text_if(statuses_of(text).is_some()),
         Directive::Method => Some(Value::Method(method_of(text)?)),
         Directive::Sticky | Directive::Force | Directive::ReadOnly | Directive::Keepalive => {

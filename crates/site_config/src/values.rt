@@ -2,7 +2,7 @@
 ghost use Rattle.std.specs.Prelude.{◌≡◌, ◌==◌, ◌||◌, ◌≤◌, ◌^◌, ◌<◌, length, List, Some, [], IfSome, IfOk, nat_lt};
 ghost use Rattle.std.specs.Option.{option_map, is_some};
 ghost use Rattle.std.specs.List.{list_any, list_all};
-ghost use Rattle.site_config.specs.Values.{number_in, lower, is_word, says_yes, says_no, truth_of, kind_of, activation_of, method_of, is_ping_letter, is_ping, pings};
+ghost use Rattle.site_config.specs.Values.{number_in, lower, is_word, says_yes, says_no, truth_of, kind_of, activation_of, method_of, is_ping, is_ping_letter, asks_ping, pings_of};
 
 use jk_io::parse_decimal;
 use lb_model::{Activation, Method};
@@ -13,6 +13,17 @@ pub enum WorkerKind {
     Ajp13,
     Lb,
     Status,
+}
+
+/// When a member is pinged.
+#[derive(Clone, Copy)]
+pub struct Pings {
+    /// On a link that is newly dialled.
+    pub dialled: bool,
+    /// Before each request.
+    pub each: bool,
+    /// On an idle link.
+    pub idle: bool,
 }
 
 /// The number that the text writes, where it is one of this range.
@@ -126,16 +137,31 @@ fn is_ping_letter(b: u8) -> bool
 }
 
 /// Whether the text has no other letters than those of pings.
-pub fn is_ping(text: &[u8]) -> bool
+fn is_ping(text: &[u8]) -> bool
     ensures { result ≡ is_ping text.now }
 {
     text.iter().all(|b| is_ping_letter(*b))
 }
 
 /// Whether the text has this letter, which is given small, or `a`, which stands for all pings.
-pub fn pings(letter: u8, text: &[u8]) -> bool
-    ensures { result ≡ pings letter text.now }
+fn asks_ping(letter: u8, text: &[u8]) -> bool
+    ensures { result ≡ asks_ping letter text.now }
 {
     text.iter()
         .any(|b| lower(*b) == letter || lower(*b) == b'a')
+}
+
+/// The pings for which the text has the letters; none where it has another letter.
+pub(crate) fn pings_of(text: &[u8]) -> Option<Pings>
+    ensures { result ≡ pings_of text.now }
+{
+    if is_ping(text) {
+        Some(Pings {
+            dialled: asks_ping(b'c', text),
+            each: asks_ping(b'p', text),
+            idle: asks_ping(b'i', text),
+        })
+    } else {
+        None
+    }
 }

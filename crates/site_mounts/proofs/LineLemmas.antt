@@ -1,5 +1,5 @@
 -- The rules of a text, line after line, and what they name.
-use Rattle.std.proofs.Common.{◌≡◌, ℕ, ◌+◌, Bool, true, false, slice_get, List, [], ◌∷◌, ◌++◌, length, map, Option, Some, None, Result, Ok, Err, refl, sym, ◌∙◌, ap, arith, append_assoc, append-nil, cond, subst}
+use Rattle.std.proofs.Common.{◌≡◌, ℕ, ◌+◌, Bool, true, false, slice_get, List, [], ◌∷◌, ◌++◌, length, Option, Some, None, Result, Ok, Err, refl, sym, ◌∙◌, ap, arith, append_assoc, append-nil, cond, subst}
 use Rattle.std.proofs.lemmas.Bool.{and_parts, lt-ltb}
 use Rattle.std.proofs.lemmas.Option.{same_Some}
 use Rattle.std.proofs.lemmas.List.Folds.{list_all-append}
@@ -11,14 +11,14 @@ use Rattle.jk_io.specs.Decimals.{trimmed}
 use Rattle.site_config.specs.Cut.{cut_at}
 use Rattle.site_config.specs.Lines.{lines, without_mark}
 use Rattle.site_config.specs.Properties.{is_silent}
-use Rattle.site_config.specs.Refusals.{LineRefusal}
 use Rattle.site_config.specs.declared.balancer.Lb.{Lb}
 use Rattle.site_config.specs.declared.config.Config.{Config}
 use Rattle.site_config.specs.declared.config.Named.{Named}
 use Rattle.site_config.specs.declared.config.Named.TheVariants as named
 use Rattle.site_config.specs.Places.{are_places, is_place, named_among}
-use Rattle.site_mounts.specs.declared.error.MapError.{MapError}
-use Rattle.site_mounts.specs.declared.error.MapError.TheVariants as errors
+use Rattle.site_mounts.specs.declared.error.RulesError.{RulesError}
+use Rattle.site_mounts.specs.declared.error.RulesError.TheVariants as errors
+use Rattle.site_mounts.specs.declared.error.MapRefusal.{MapRefusal}
 use Rattle.site_mounts.specs.declared.error.MapReason.TheVariants as reason
 use Rattle.site_mounts.specs.declared.rule.Rule.{Rule}
 use Rattle.site_mounts.specs.declared.rule.Role.{Role}
@@ -26,13 +26,13 @@ use Rattle.site_mounts.specs.declared.rule.Role.TheVariants as role
 use Rattle.site_mounts.specs.Lines.{before_rest, with_rules, read_lines, read_text, said, rules_of, rules_at, rules_with, made_rules, role_of, role_in, excluded_worker, known, mount_with, mount_at, terms_at}
 use Rattle.site_mounts.specs.Members.{members_at, members_in}
 use Rattle.site_mounts.specs.Parts.{disabled, is_good, last_value, names_in, parts_of, pieces_of, stopped, terms_of}
-use Rattle.site_mounts.specs.Refusals.{AnswersMap, or_refused}
+use Rattle.site_mounts.specs.Refusals.{AnswersRules, or_refused}
 use Rattle.site_mounts.specs.Sides.{Left, left_of, patterns_of}
 use Rattle.site_mounts.specs.Sites.{is_worker, member_count, names_members, role_stands_in, stands_in}
 use Rattle.site_mounts.proofs.MemberLemmas.{set_of-below}
 
 -- a line that is read
-pub with_line : (rules after : List Rule) (line rest : Result (List Rule) LineRefusal) → with_rules rules line ≡ Ok after → with_rules rules (before_rest line rest) ≡ with_rules after rest
+pub with_line : (rules after : List Rule) (line rest : Result (List Rule) MapRefusal) → with_rules rules line ≡ Ok after → with_rules rules (before_rest line rest) ≡ with_rules after rest
 with_line rules after (Err refused) rest e = cc
 with_line rules after (Ok new) (Err refused) e = refl
 with_line rules after (Ok new) (Ok more) e =
@@ -40,12 +40,12 @@ with_line rules after (Ok new) (Ok more) e =
     ap (λ (xs : List Rule). Ok xs) (sym (append_assoc rules new more) ∙ ap (λ (xs : List Rule). xs ++ more) so)
 
 -- a line that is refused
-pub with_refused : (rules : List Rule) (line rest : Result (List Rule) LineRefusal) (refused : LineRefusal) → with_rules rules line ≡ Err refused → with_rules rules (before_rest line rest) ≡ Err refused
+pub with_refused : (rules : List Rule) (line rest : Result (List Rule) MapRefusal) (refused : MapRefusal) → with_rules rules line ≡ Err refused → with_rules rules (before_rest line rest) ≡ Err refused
 with_refused rules (Err why) rest refused e = e
 with_refused rules (Ok new) rest refused e = cc
 
 -- what is read is so; a refusal may come
-abbrev pub OnRead : {X : Type 0} → (X → Bool) → Result X LineRefusal → Type 0
+abbrev pub OnRead : {X : Type 0} → (X → Bool) → Result X MapRefusal → Type 0
 OnRead so (Ok x) = so x ≡ true
 OnRead so (Err refused) = Unit {0}
 
@@ -79,7 +79,7 @@ terms_stand config i parts =
     let few' = lt-ltb _ _ (below (names_in (last_value stopped parts))) in
     rw (few, few') refl
 
-mount_stands : (config : Config) (line : ℕ) (texts : List (List ℕ)) (w : Result Named LineRefusal) → OnRead (is_worker config) w → OnRead (role_stands_in config) (mount_with config line texts w)
+mount_stands : (config : Config) (line : ℕ) (texts : List (List ℕ)) (w : Result Named MapRefusal) → OnRead (is_worker config) w → OnRead (role_stands_in config) (mount_with config line texts w)
 mount_stands config line texts (Err refused) h = tt
 mount_stands config line texts (Ok worker) h = by_parts worker (parts_of texts) h
   where
@@ -92,7 +92,7 @@ mount_stands config line texts (Ok worker) h = by_parts worker (parts_of texts) 
     by_parts (named.Status i) (Some parts) h = rw h refl
     by_parts (named.Balancer i) (Some parts) h = by_test i parts (list_all (is_good (members_at config i)) parts) h
 
-excluded_stands : (config : Config) (w : Result Named LineRefusal) → OnRead (is_worker config) w → OnRead (role_stands_in config) (excluded_worker w)
+excluded_stands : (config : Config) (w : Result Named MapRefusal) → OnRead (is_worker config) w → OnRead (role_stands_in config) (excluded_worker w)
 excluded_stands config (Err refused) h = tt
 excluded_stands config (Ok worker) h = h
 
@@ -109,7 +109,7 @@ made_stand : (config : Config) (line : ℕ) (r : Role) (patterns : List (List �
 made_stand config line r [] h = refl
 made_stand config line r (p ∷ patterns) h = rw (h, made_stand config line r patterns h) refl
 
-rules_stand : (config : Config) (line : ℕ) (off : Bool) (patterns : List (List ℕ)) (r : Result Role LineRefusal) → OnRead (role_stands_in config) r → OnRead (stands_in config) (rules_with line off patterns r)
+rules_stand : (config : Config) (line : ℕ) (off : Bool) (patterns : List (List ℕ)) (r : Result Role MapRefusal) → OnRead (role_stands_in config) r → OnRead (stands_in config) (rules_with line off patterns r)
 rules_stand config line off patterns (Err refused) h = tt
 rules_stand config line true patterns (Ok r) h = refl
 rules_stand config line false patterns (Ok r) h = made_stand config line r patterns h
@@ -134,7 +134,7 @@ said_stands config line text = by_test (is_silent text)
 append_stands : (config : Config) (rules more : List Rule) → stands_in config rules ≡ true → stands_in config more ≡ true → stands_in config (rules ++ more) ≡ true
 append_stands config rules more h k = rw (list_all-append, h, k) refl
 
-before_stands : (config : Config) (line rest : Result (List Rule) LineRefusal) → OnRead (stands_in config) line → OnRead (stands_in config) rest → OnRead (stands_in config) (before_rest line rest)
+before_stands : (config : Config) (line rest : Result (List Rule) MapRefusal) → OnRead (stands_in config) line → OnRead (stands_in config) rest → OnRead (stands_in config) (before_rest line rest)
 before_stands config (Err refused) rest h k = tt
 before_stands config (Ok rules) (Err refused) h k = tt
 before_stands config (Ok rules) (Ok more) h k = append_stands config rules more h k
@@ -155,18 +155,17 @@ read_ended config rules line text [] h e = sym e ∙ ap (λ (xs : List Rule). Ok
 read_ended config rules line text (b ∷ bs) h e = absurd (omega arith)
 
 -- the first line that is refused is what reading gives
-pub refused_line : (view : Unit {0} → List Rule) (rules : List Rule) (line rest : Result (List Rule) LineRefusal) (error : MapError) → AnswersMap view (Err error) (with_rules rules line) → AnswersMap {X = List Rule} (λ map. map) (Err error) (with_rules rules (before_rest line rest))
-refused_line view rules line rest (errors.Refused number code) h =
-    with_refused rules line rest (record { line = number; code = code }) h
+pub refused_line : (view : Unit {0} → List Rule) (rules : List Rule) (line rest : Result (List Rule) MapRefusal) (error : RulesError) → AnswersRules view (Err error) (with_rules rules line) → AnswersRules {X = List Rule} (λ map. map) (Err error) (with_rules rules (before_rest line rest))
+refused_line view rules line rest (errors.Refused r) h = with_refused rules line rest r h
 refused_line view rules line rest errors.NoMemory h = tt
 
 -- an error is what reading gives, whatever the call makes of the rules
-any_view : {X : Type 0} (view : X → List Rule) (error : MapError) (read : Result (List Rule) LineRefusal) → AnswersMap {X = List Rule} (λ map. map) (Err error) read → AnswersMap view (Err error) read
-any_view view (errors.Refused line code) read h = h
+any_view : {X : Type 0} (view : X → List Rule) (error : RulesError) (read : Result (List Rule) MapRefusal) → AnswersRules {X = List Rule} (λ map. map) (Err error) read → AnswersRules view (Err error) read
+any_view view (errors.Refused r) read h = h
 any_view view errors.NoMemory read h = tt
 
 -- an error that a call hands on
-pub handed_on : {X : Type 0} (view : X → List Rule) (answer : Result X MapError) (error : MapError) (read : Result (List Rule) LineRefusal) → IsErrAnd answer (λ e. e ≡ error)
-    → AnswersMap {X = List Rule} (λ map. map) (Err error) read → AnswersMap view answer read
+pub handed_on : {X : Type 0} (view : X → List Rule) (answer : Result X RulesError) (error : RulesError) (read : Result (List Rule) MapRefusal) → IsErrAnd answer (λ e. e ≡ error)
+    → AnswersRules {X = List Rule} (λ map. map) (Err error) read → AnswersRules view answer read
 handed_on view (Ok x) error read h g = absurd h
-handed_on view (Err e) error read h g = subst (λ (x : MapError). AnswersMap view (Err x) read) (sym h) (any_view view error read g)
+handed_on view (Err e) error read h g = subst (λ (x : RulesError). AnswersRules view (Err x) read) (sym h) (any_view view error read g)

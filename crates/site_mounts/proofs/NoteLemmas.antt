@@ -1,5 +1,5 @@
 -- The notes on a text, line after line.
-use Rattle.std.proofs.Common.{◌≡◌, ◌==◌, ℕ, ◌+◌, List, [], ◌∷◌, ◌++◌, length, Option, Some, None, refl, sym, ◌∙◌, ap, arith, append-nil}
+use Rattle.std.proofs.Common.{◌≡◌, ℕ, List, [], ◌∷◌, ◌++◌, length, Option, Some, None, refl, sym, ◌∙◌, ap, arith, append-nil}
 use Rattle.site_config.specs.Cut.{cut_at}
 use Rattle.site_config.specs.Lines.{lines}
 use Rattle.site_config.specs.declared.config.Config.{Config}

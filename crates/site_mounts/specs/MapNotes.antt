@@ -6,10 +6,10 @@ use Rattle.jk_io.specs.Decimals.{trimmed}
 use Rattle.site_config.specs.Cut.{cut_at, is_separator}
 use Rattle.site_config.specs.Lines.{lines, without_mark}
 use Rattle.site_config.specs.Properties.{is_silent}
-use Rattle.site_config.specs.Refusals.{LineRefusal}
 use Rattle.site_config.specs.declared.config.Config.{Config}
 use Rattle.site_config.specs.declared.config.Named.{Named}
 use Rattle.site_config.specs.declared.config.Named.TheVariants as named
+use Rattle.site_mounts.specs.declared.error.MapRefusal.{MapRefusal}
 use Rattle.site_mounts.specs.declared.map_note.MapNote.{MapNote}
 use Rattle.site_mounts.specs.declared.map_note.NoPartEffect.{NoPartEffect}
 use Rattle.site_mounts.specs.declared.map_note.NoPartEffect.TheVariants as why
@@ -49,7 +49,7 @@ parts_notes line worker None = []
 parts_notes line worker (Some parts) = worker_notes line worker parts
 
 -- on the pieces after a mount's worker; a line whose worker isn't listed, or with a piece that is no part, is refused
-abbrev pub mount_notes : ℕ → List (List ℕ) → Result Named LineRefusal → List MapNote
+abbrev pub mount_notes : ℕ → List (List ℕ) → Result Named MapRefusal → List MapNote
 mount_notes line texts (Err refused) = []
 mount_notes line texts (Ok worker) = parts_notes line worker (parts_of texts)
 

@@ -1,7 +1,7 @@
 //! Why a uriworkermap.properties is refused.
 ghost use Rattle.std.specs.Prelude.{◌≡◌};
-ghost use Rattle.site_mounts.specs.Refusals.{code_of};
-ghost use Rattle.site_mounts.specs.declared.error.MapError.TheVariants.{NoMemory};
+ghost use Rattle.site_mounts.specs.Refusals.{code_of, error_of, refusal};
+ghost use Rattle.site_mounts.specs.declared.error.RulesError.TheVariants as errors;
 
 use std::alloc::{AllocError, AllocFailed};
 use thiserror::Error;
@@ -17,6 +17,22 @@ pub enum MapReason {
     BadExtension,
 }
 
+/// A line that is refused, and why.
+#[derive(Clone, Copy)]
+pub struct MapRefusal {
+    /// From 1.
+    pub line: u32,
+    pub reason: MapReason,
+}
+
+/// Why lines give no rules.
+#[derive(Clone, Copy)]
+pub enum RulesError {
+    /// The first refusal.
+    Refused(MapRefusal),
+    NoMemory,
+}
+
 /// Why there is no map.
 #[derive(Clone, Copy, Debug, Error)]
 pub enum MapError {
@@ -29,7 +45,7 @@ pub enum MapError {
 
 impl MapReason {
     /// The number of the refusal.
-    fn code(self) -> u8
+    pub fn code(self) -> u8
         ensures { result ≡ code_of self }
     {
         match self {
@@ -41,35 +57,46 @@ impl MapReason {
 }
 
 /// The refusal of a line.
-pub(crate) fn refused(line: u32, reason: MapReason) -> MapError
-    ensures { result ≡ MapError.Refused line (code_of reason) }
+pub(crate) fn refused(line: u32, reason: MapReason) -> RulesError
+    ensures { result ≡ RulesError.Refused (refusal line reason) }
 {
-    MapError::Refused {
-        line,
-        code: reason.code(),
+    RulesError::Refused(MapRefusal { line, reason })
+}
+
+impl From<AllocError> for RulesError {
+    ghost from_gives = { λ _ e. e ≡ errors.NoMemory };
+
+    fn from(_error: AllocError) -> RulesError {
+        RulesError::NoMemory
     }
 }
 
-impl From<AllocError> for MapError {
-    ghost from_gives = { λ _ e. e ≡ NoMemory };
+impl<T: Drop> From<AllocFailed<T>> for RulesError {
+    ghost from_gives = { λ _ e. e ≡ errors.NoMemory };
 
-    fn from(_error: AllocError) -> MapError {
-        MapError::NoMemory
+    fn from(_error: AllocFailed<T>) -> RulesError {
+        RulesError::NoMemory
     }
 }
 
-impl<T: Drop> From<AllocFailed<T>> for MapError {
-    ghost from_gives = { λ _ e. e ≡ NoMemory };
+impl From<jk_io::NoMemory> for RulesError {
+    ghost from_gives = { λ _ e. e ≡ errors.NoMemory };
 
-    fn from(_error: AllocFailed<T>) -> MapError {
-        MapError::NoMemory
+    fn from(_error: jk_io::NoMemory) -> RulesError {
+        RulesError::NoMemory
     }
 }
 
-impl From<jk_io::NoMemory> for MapError {
-    ghost from_gives = { λ _ e. e ≡ NoMemory };
+impl From<RulesError> for MapError {
+    ghost from_gives = { λ why e. e ≡ error_of why };
 
-    fn from(_error: jk_io::NoMemory) -> MapError {
-        MapError::NoMemory
+    fn from(error: RulesError) -> MapError {
+        match error {
+            RulesError::Refused(refusal) => MapError::Refused {
+                line: refusal.line,
+                code: refusal.reason.code(),
+            },
+            RulesError::NoMemory => MapError::NoMemory,
+        }
     }
 }

@@ -1,15 +1,14 @@
 //! Reading a map, line by line.
 ghost use Rattle.std.specs.Prelude.{◌≡◌, ◌≤◌, ◌+◌, ◌++◌, [], map, length, true, Some, IfOk, OnOk};
-ghost use Rattle.std.specs.Option.{option_map};
 ghost use Rattle.site_config.specs.Properties.{is_silent};
 ghost use Rattle.site_mounts.specs.Lines.{made_rules, read_text, rules_of, said, with_rules};
 ghost use Rattle.site_mounts.specs.MapNotes.{line_notes, map_notes, rule_notes};
-ghost use Rattle.site_mounts.specs.Refusals.{AnswersMap, code_in};
+ghost use Rattle.site_mounts.specs.Refusals.{AnswersMap, AnswersRules, reason_in};
 ghost use Rattle.site_mounts.specs.Sides.{as_patterns};
 ghost use Rattle.site_mounts.specs.Sites.{stands_in};
 ghost use Rattle.jk_io.specs.declared.whole_input.TheConstants.{MAX_INPUT_BYTES};
 
-use crate::error::{MapError, MapReason, refused};
+use crate::error::{MapError, MapReason, RulesError, refused};
 use crate::map_note::{MapNote, NotedMap};
 use crate::pattern::Pattern;
 use crate::role::role_of;
@@ -90,8 +89,8 @@ fn push_sides(
     line: u32,
     left: &[u8],
     right: &[u8],
-) -> Result<(), MapError>
-    ensures read { AnswersMap (λ _. out.new.rules.items) result
+) -> Result<(), RulesError>
+    ensures read { AnswersRules (λ _. out.new.rules.items) result
         (with_rules out.old.rules.items (rules_of workers.now line (Some (left.now, right.now)))) }
     ensures noted { OnOk result (out.new.notes.items
         ≡ out.old.notes.items ++ rule_notes workers.now line (Some (left.now, right.now))) }
@@ -116,8 +115,8 @@ fn push_line(
     workers: &Workers<'_>,
     line: u32,
     text: &[u8],
-) -> Result<(), MapError>
-    ensures read { AnswersMap (λ _. out.new.rules.items) result
+) -> Result<(), RulesError>
+    ensures read { AnswersRules (λ _. out.new.rules.items) result
         (with_rules out.old.rules.items (said workers.now line text.now)) }
     ensures noted { OnOk result (out.new.notes.items
         ≡ out.old.notes.items ++ line_notes workers.now line text.now) }
@@ -132,27 +131,27 @@ fn push_line(
     }
 }
 
-/// The number of the refusal of a trimmed line, if it is refused.
+/// For what a trimmed line is refused, if it is.
 pub fn refusal_of(
     alloc: Global,
     workers: &Workers<'_>,
     line: u32,
     text: &[u8],
-) -> Result<Option<u8>, NoMemory>
-    ensures { IfOk result (λ code. code ≡ code_in (said workers.now line text.now)) }
+) -> Result<Option<MapReason>, NoMemory>
+    ensures { IfOk result (λ reason. reason ≡ reason_in (said workers.now line text.now)) }
 {
     let mut read = none_read(alloc);
     match push_line(alloc, &mut read, workers, line, text) {
         Ok(()) => Ok(None),
-        Err(MapError::Refused { code, .. }) => Ok(Some(code)),
-        Err(MapError::NoMemory) => Err(NoMemory),
+        Err(RulesError::Refused(refusal)) => Ok(Some(refusal.reason)),
+        Err(RulesError::NoMemory) => Err(NoMemory),
     }
 }
 
 /// The map of a text with the notes on it, or its first refusal.
-pub fn read_rules(alloc: Global, text: &[u8], config: &Config) -> Result<NotedMap, MapError>
+pub fn read_rules(alloc: Global, text: &[u8], config: &Config) -> Result<NotedMap, RulesError>
     requires { length text.now ≤ MAX_INPUT_BYTES }
-    ensures read { AnswersMap (λ noted. noted.map) result (read_text config.now text.now) }
+    ensures read { AnswersRules (λ noted. noted.map) result (read_text config.now text.now) }
     ensures noted { IfOk result (λ noted. noted.notes ≡ map_notes config.now text.now) }
 
     // All that the map names stands in the configuration.
@@ -173,7 +172,7 @@ pub fn read_rules(alloc: Global, text: &[u8], config: &Config) -> Result<NotedMa
     })
 }
 
-/// The map of a text, or its first refusal.
+/// The map of a text, or its first refusal, with the number of that.
 pub fn read_map(alloc: Global, text: &[u8], config: &Config) -> Result<UriMap, MapError>
     requires { length text.now ≤ MAX_INPUT_BYTES }
     ensures read { AnswersMap (λ map. map) result (read_text config.now text.now) }
@@ -181,5 +180,5 @@ pub fn read_map(alloc: Global, text: &[u8], config: &Config) -> Result<UriMap, M
     // All that the map names stands in the configuration.
     ensures stands { IfOk result (λ map. stands_in config.now map ≡ true) }
 {
-    read_rules(alloc, text, config).map(|noted| noted.map)
+    Ok(read_rules(alloc, text, config)?.map)
 }

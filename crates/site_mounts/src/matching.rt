@@ -1,6 +1,6 @@
 //! Matching a path against a pattern: the pieces between the pattern's stars are found from the left, and the last one
 //! at the path's end, so that no place of the path is tried twice for one piece.
-ghost use Rattle.std.specs.Prelude.{◌≡◌, List, ℕ, None};
+ghost use Rattle.std.specs.Prelude.{◌≡◌, None};
 ghost use Rattle.std.specs.Option.{option_map};
 ghost use Rattle.site_config.specs.Cut.{cut_at};
 ghost use Rattle.site_mounts.specs.Patterns.{stands_for, some_end, matches};

@@ -1,6 +1,6 @@
 //! A pattern of a rule.
 ghost use Rattle.std.specs.Prelude.{◌≡◌, length};
-ghost use Rattle.site_mounts.specs.Patterns.{has_wildcard, is_wildcard, matches};
+ghost use Rattle.site_mounts.specs.Patterns.{has_wildcard, matches};
 
 use crate::matching::matches;
 use jk_io::Bytes;

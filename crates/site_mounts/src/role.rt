@@ -5,9 +5,9 @@ ghost use Rattle.site_mounts.specs.Lines.{exclusion_of, known, mount_of, mount_w
 ghost use Rattle.site_mounts.specs.MapNotes.{mount_notes, role_notes};
 ghost use Rattle.site_mounts.specs.PartViews.{as_parts};
 ghost use Rattle.site_mounts.specs.Parts.{pieces_behind, pieces_of};
-ghost use Rattle.site_mounts.specs.Refusals.{AnswersMap};
+ghost use Rattle.site_mounts.specs.Refusals.{AnswersRules};
 
-use crate::error::{MapError, MapReason, refused};
+use crate::error::{MapReason, RulesError, refused};
 use crate::map_note::{MapNote, exclusion_notes, worker_notes};
 use crate::parts::{Part, given_terms, parts_behind};
 use crate::rule::{Mount, Role};
@@ -25,8 +25,8 @@ pub(crate) struct RightSide {
 }
 
 /// The listed worker of this name.
-fn known(workers: &Workers<'_>, line: u32, name: &[u8]) -> Result<Named, MapError>
-    ensures { AnswersMap (λ worker. worker) result (known workers.now line name.now) }
+fn known(workers: &Workers<'_>, line: u32, name: &[u8]) -> Result<Named, RulesError>
+    ensures { AnswersRules (λ worker. worker) result (known workers.now line name.now) }
 {
     match workers.find(name) {
         Some(worker) => Ok(worker),
@@ -34,8 +34,8 @@ fn known(workers: &Workers<'_>, line: u32, name: &[u8]) -> Result<Named, MapErro
     }
 }
 
-fn exclusion_of(workers: &Workers<'_>, line: u32, name: &[u8]) -> Result<Role, MapError>
-    ensures { AnswersMap (λ role. role) result (exclusion_of workers.now line name.now) }
+fn exclusion_of(workers: &Workers<'_>, line: u32, name: &[u8]) -> Result<Role, RulesError>
+    ensures { AnswersRules (λ role. role) result (exclusion_of workers.now line name.now) }
 {
     if name == b"*".as_slice() {
         Ok(Role::Exclusion(None))
@@ -66,8 +66,8 @@ fn mount_at(
     line: u32,
     worker: Named,
     text: Option<&[u8]>,
-) -> Result<RightSide, MapError>
-    ensures role { AnswersMap (λ right. right.role) result (mount_with workers.now line
+) -> Result<RightSide, RulesError>
+    ensures role { AnswersRules (λ right. right.role) result (mount_with workers.now line
         (pieces_behind (option_map (λ t. t.now) text.entry)) (Ok worker)) }
     ensures notes { IfOk result (λ right. right.notes.items ≡ mount_notes line
         (pieces_behind (option_map (λ t. t.now) text.entry)) (Ok worker)) }
@@ -89,8 +89,8 @@ fn mount_of(
     line: u32,
     name: &[u8],
     text: Option<&[u8]>,
-) -> Result<RightSide, MapError>
-    ensures role { AnswersMap (λ right. right.role) result (mount_of workers.now line name.now
+) -> Result<RightSide, RulesError>
+    ensures role { AnswersRules (λ right. right.role) result (mount_of workers.now line name.now
         (pieces_behind (option_map (λ t. t.now) text.entry))) }
     ensures notes { IfOk result (λ right. right.notes.items ≡ mount_notes line
         (pieces_behind (option_map (λ t. t.now) text.entry)) (known workers.now line name.now)) }
@@ -116,8 +116,8 @@ pub(crate) fn role_of(
     line: u32,
     exclusion: bool,
     text: &[u8],
-) -> Result<RightSide, MapError>
-    ensures role { AnswersMap (λ right. right.role) result (role_of workers.now line exclusion text.now) }
+) -> Result<RightSide, RulesError>
+    ensures role { AnswersRules (λ right. right.role) result (role_of workers.now line exclusion text.now) }
     ensures notes { IfOk result (λ right. right.notes.items
         ≡ role_notes workers.now line exclusion (pieces_of text.now)) }
 {

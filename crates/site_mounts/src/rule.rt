@@ -1,7 +1,7 @@
 //! A rule of a map, and which of two rules goes first.
-ghost use Rattle.std.specs.Prelude.{◌≡◌, is_some, length};
-ghost use Rattle.site_mounts.specs.Mounts.{is_before, is_before_by, is_longer_or_later, mounts};
-ghost use Rattle.site_mounts.specs.Patterns.{has_wildcard, matches};
+ghost use Rattle.std.specs.Prelude.{◌≡◌, length};
+ghost use Rattle.site_mounts.specs.Mounts.{is_before, is_longer_or_later, mounts};
+ghost use Rattle.site_mounts.specs.Patterns.{matches};
 ghost use Rattle.site_mounts.specs.Roles.{excludes, mount_of};
 
 use crate::pattern::Pattern;

@@ -1,5 +1,5 @@
 //! The left side of a rule: its marks, and the patterns.
-ghost use Rattle.std.specs.Prelude.{◌≡◌, is_some};
+ghost use Rattle.std.specs.Prelude.{◌≡◌};
 ghost use Rattle.std.specs.Option.{option_map};
 ghost use Rattle.site_mounts.specs.Sides.{as_left, as_patterns, behind_byte, behind_exclusion, behind_off, left_of, patterns_of};
 

@@ -2,8 +2,7 @@
 ghost use Rattle.std.specs.Prelude.{◌≡◌, ◌<◌, ◌^◌, length, IfSome, true};
 ghost use Rattle.std.specs.Option.{option_copied};
 ghost use Rattle.site_config.specs.declared.config.Config.{Config};
-ghost use Rattle.site_mounts.specs.Mounts.{best, deciding_line, exclusion_line, is_excluded, line_count, mount, mounts, is_before, taken, terms, no_terms};
-ghost use Rattle.site_mounts.specs.Roles.{mount_of};
+ghost use Rattle.site_mounts.specs.Mounts.{best, deciding_line, exclusion_line, is_excluded, line_count, mount, mounts, taken, terms};
 ghost use Rattle.site_mounts.specs.Search.{better};
 ghost use Rattle.site_mounts.specs.Sites.{is_worker, members_of, names_members, stands_in};
 

@@ -5,7 +5,7 @@ use Rattle.std.proofs.lemmas.Grind.{flat_map-append}
 use Rattle.std.specs.List.{flat_map}
 use Rattle.site_config.specs.Entries.{as_properties, as_property}
 use Rattle.site_config.specs.Properties.{read_text}
-use Rattle.site_config.specs.Refusals.{LineRefusal}
+use Rattle.site_config.specs.declared.error.PropsRefusal.{PropsRefusal}
 use Rattle.site_config.specs.declared.config.Config.{Config}
 use Rattle.site_config.specs.declared.property.Property.{Property}
 use Rattle.site_config.specs.declared.property_line.PropertyLine.{PropertyLine}
@@ -25,7 +25,7 @@ notes_more k ps es i d h =
     ∙ ap (λ (ns : List WorkersNote). flat_map (note_on k ps) (as_properties (take i es)) ++ ns) (append-nil (note_on k ps (as_property (get_or es i d))))
 
 -- the lines of a text are these alone
-same_lines : (a b : List Property) (r : Result (List Property) LineRefusal) → r ≡ Ok a → r ≡ Ok b → a ≡ b
+same_lines : (a b : List Property) (r : Result (List Property) PropsRefusal) → r ≡ Ok a → r ≡ Ok b → a ≡ b
 same_lines a b r x y = cc
 
 pub are_notes : (text : List ℕ) (c : Config) (ps : List Property) (notes : List WorkersNote) → read_text true text ≡ Ok ps → notes ≡ notes_of (site_kinds c) ps → AreNotes text c notes

@@ -1,8 +1,7 @@
 -- The first line of a list of paths, and the lines after it.
-use Rattle.std.proofs.Common.{◌≡◌, ℕ, ◌<◌, Bool, true, false, List, [], ◌∷◌, length, Option, Some, None, refl, eqb, ap, sym, ◌∙◌, arith}
+use Rattle.std.proofs.Common.{◌≡◌, ℕ, ◌<◌, Bool, true, false, List, [], ◌∷◌, length, Option, Some, None, refl, eqb, sym, arith}
 use Rattle.std.proofs.lemmas.Option.{some_pair_parts}
 use Rattle.std.specs.Option.{option_map}
-use Rattle.std.specs.List.{onto_first}
 use Rattle.site_config.specs.Cut.{cut_at, onto_name}
 use Rattle.site_reports.specs.PathLines.{path_lines}
 

@@ -1,9 +1,9 @@
 -- The report of the files that were found, by their texts.
 use Rattle.std.proofs.Common.{◌≡◌, ℕ, false, true, List, Result, inl, inr, refl, sym, subst}
-use Rattle.site_config.specs.Refusals.{LineRefusal}
 use Rattle.site_config.specs.declared.config.Config.{Config}
+use Rattle.site_mounts.specs.declared.error.MapRefusal.{MapRefusal}
 use Rattle.site_mounts.specs.declared.rule.Rule.{Rule}
-use Rattle.site_reports.specs.Found.{FindsSite, FindsWorkers, PrintsFound, is_refused, workers_refusal}
+use Rattle.site_reports.specs.Found.{FindsSite, FindsWorkers, PrintsFound, is_refused}
 use Rattle.site_reports.specs.Reports.{OfRules, OfSite, OfWorkers}
 use Rattle.site_reports.specs.declared.found.SiteFound.{SiteFound}
 use Rattle.site_reports.specs.declared.found.SiteFound.TheVariants as found
@@ -13,7 +13,7 @@ pub workers_printed : (Alone : Config → List ℕ → Type 0) (Of : Config → 
     → FindsWorkers workers f → PrintsFound Alone Of f out → OfWorkers workers (λ c out refused. Alone c out × (refused ≡ false)) out (is_refused f)
 workers_printed Alone Of workers out (found.Workers w) finds prints = inr (w.config, finds.1, (prints, refl))
 workers_printed Alone Of workers out (found.Site s) finds prints = absurd finds
-workers_printed Alone Of workers out (found.WorkersRefused r) finds prints = inl (workers_refusal r, finds.1, (prints, refl))
+workers_printed Alone Of workers out (found.WorkersRefused r) finds prints = inl (r.refusal, finds.1, (prints, refl))
 workers_printed Alone Of workers out (found.MapRefused r) finds prints = absurd finds
 
 -- of both files
@@ -21,7 +21,7 @@ pub site_printed : (Alone : Config → List ℕ → Type 0) (Of : Config → Lis
     → FindsSite workers map f → PrintsFound Alone Of f out → OfSite workers map Of out (is_refused f)
 site_printed Alone Of workers map out (found.Workers w) finds prints = absurd finds
 site_printed Alone Of workers map out (found.Site s) (text, is, second, read) prints =
-    inr (s.workers.config, is, subst (λ (r : Result (List Rule) LineRefusal). OfRules (Of s.workers.config) r out false) (sym read) (prints, refl))
-site_printed Alone Of workers map out (found.WorkersRefused r) finds prints = inl (workers_refusal r, finds.1, (prints, refl))
+    inr (s.workers.config, is, subst (λ (r : Result (List Rule) MapRefusal). OfRules (Of s.workers.config) r out false) (sym read) (prints, refl))
+site_printed Alone Of workers map out (found.WorkersRefused r) finds prints = inl (r.refusal, finds.1, (prints, refl))
 site_printed Alone Of workers map out (found.MapRefused r) (text, is, second, read) prints =
-    inr (r.workers.config, is, subst (λ (x : Result (List Rule) LineRefusal). OfRules (Of r.workers.config) x out true) (sym read) (prints, refl))
+    inr (r.workers.config, is, subst (λ (x : Result (List Rule) MapRefusal). OfRules (Of r.workers.config) x out true) (sym read) (prints, refl))

@@ -1,8 +1,7 @@
 -- The output of `config` for a configuration: the listed workers in order, each balancer with its members, the time
 -- between two maintenances, and the keys that have no effect.
-use Rattle.std.specs.Prelude.{ℕ, Bool, true, false, List, [], ◌∷◌, ◌++◌, Option, Some, None, codes, decimal, slice_get, map, filter, if◌then◌else◌}
+use Rattle.std.specs.Prelude.{ℕ, List, [], ◌++◌, Option, Some, None, codes, decimal, slice_get, if◌then◌else◌}
 use Rattle.std.specs.List.{flat_map, zip}
-use Rattle.lb_model.specs.declared.member.MemberConfig.{MemberConfig}
 use Rattle.site_config.specs.Directives.{behind_worker}
 use Rattle.site_config.specs.declared.balancer.Lb.{Lb}
 use Rattle.site_config.specs.declared.config.Config.{Config}

@@ -1,6 +1,6 @@
 -- The output of `match`: each line is a raw path, maybe with a query, and is answered with the worker at which its clean path
 -- is mounted, and, where that is asked for, with the line of the map that decides about it.
-use Rattle.std.specs.Prelude.{ℕ, Bool, List, [], ◌∷◌, ◌++◌, Option, Some, None, codes, decimal, slice_get, if◌then◌else◌}
+use Rattle.std.specs.Prelude.{ℕ, Bool, List, [], ◌++◌, Option, Some, None, codes, decimal, slice_get, if◌then◌else◌}
 use Rattle.std.specs.List.{flat_map}
 use Rattle.http_front.specs.Path.{clean_of}
 use Rattle.site_config.specs.Cut.{cut_at}

@@ -1,5 +1,5 @@
 -- The lines of a list of paths.
-use Rattle.std.specs.Prelude.{ℕ, List, [], ◌∷◌, Option, Some, None, if◌then◌else◌, ◌==◌}
+use Rattle.std.specs.Prelude.{ℕ, List, [], ◌∷◌, if◌then◌else◌, ◌==◌}
 use Rattle.std.specs.List.{onto_first}
 
 -- LF ends a line, and the last one may end with the text

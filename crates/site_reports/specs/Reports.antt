@@ -1,9 +1,13 @@
 -- The reports of `config` and `match` on the texts of a site's files, whether one of these is refused, and the line that refuses
 -- the files themselves.
 use Rattle.std.specs.Prelude.{◌≡◌, ℕ, Bool, true, false, List, [], ◌∷◌, ◌++◌, ◌⊎◌, Result, Ok, Err, codes, decimal}
+use Rattle.site_config.specs.declared.error.PropsRefusal.{PropsRefusal}
+use Rattle.site_config.specs.Refusals as workers
 use Rattle.site_config.specs.Refusals.{LineRefusal}
 use Rattle.site_config.specs.declared.config.Config.{Config}
 use Rattle.site_mounts.specs.Lines.{read_text}
+use Rattle.site_mounts.specs.Refusals as maps
+use Rattle.site_mounts.specs.declared.error.MapRefusal.{MapRefusal}
 use Rattle.site_mounts.specs.Mounts.{line_count}
 use Rattle.site_mounts.specs.declared.rule.Rule.{Rule}
 use Rattle.site_workers.specs.Site.{IsConfig, IsRefusedText}
@@ -11,26 +15,33 @@ use Rattle.site_reports.specs.ConfigText.{config_text}
 use Rattle.site_reports.specs.Matches.{match_text}
 use Rattle.site_reports.specs.Readings.{AreRead, CommandOutside, File, StopsLong}
 
--- the first refusal of a file
+-- a refusal as it is printed
 abbrev pub refusal_line : (file : List ℕ) → LineRefusal → List ℕ
 refusal_line file r = file ++ codes " line " ++ decimal r.line ++ codes ": refusal " ++ decimal r.code ++ codes "\n"
+
+-- the first refusal of a workers.properties, and of a uriworkermap.properties
+abbrev pub workers_refusal_line : PropsRefusal → List ℕ
+workers_refusal_line r = refusal_line (codes "workers") (workers.numbered r)
+
+abbrev pub map_refusal_line : MapRefusal → List ℕ
+map_refusal_line r = refusal_line (codes "map") (maps.numbered r)
 
 abbrev pub rules_line : List Rule → List ℕ
 rules_line rules = codes "rules " ++ decimal (line_count rules) ++ codes "\n"
 
 -- a file was refused: its line alone is printed
-abbrev pub PrintsRefusal : (file : List ℕ) → LineRefusal → (out : List ℕ) → (refused : Bool) → Type 0
-PrintsRefusal file r out refused = (out ≡ refusal_line file r) × (refused ≡ true)
+abbrev pub PrintsRefusal : (line out : List ℕ) → (refused : Bool) → Type 0
+PrintsRefusal line out refused = (out ≡ line) × (refused ≡ true)
 
 -- the refusal of a workers.properties, or what is printed of its configuration
 abbrev pub OfWorkers : (workers : List ℕ) → (Config → List ℕ → Bool → Type 0) → (out : List ℕ) → (refused : Bool) → Type 0
 OfWorkers workers of out refused =
-    ((r : LineRefusal) × IsRefusedText workers r × PrintsRefusal (codes "workers") r out refused)
+    ((r : PropsRefusal) × IsRefusedText workers r × PrintsRefusal (workers_refusal_line r) out refused)
     ⊎ ((c : Config) × IsConfig workers c × of c out refused)
 
 -- the refusal of a uriworkermap.properties, or what is printed of its rules
-abbrev pub OfRules : (List Rule → (out : List ℕ) → Type 0) → Result (List Rule) LineRefusal → (out : List ℕ) → (refused : Bool) → Type 0
-OfRules of (Err r) out refused = PrintsRefusal (codes "map") r out refused
+abbrev pub OfRules : (List Rule → (out : List ℕ) → Type 0) → Result (List Rule) MapRefusal → (out : List ℕ) → (refused : Bool) → Type 0
+OfRules of (Err r) out refused = PrintsRefusal (map_refusal_line r) out refused
 OfRules of (Ok rules) out refused = of rules out × (refused ≡ false)
 
 -- the refusal of either file, or what is printed of the configuration and the rules

@@ -1,5 +1,5 @@
 -- How single values are printed.
-use Rattle.std.specs.Prelude.{ℕ, Bool, List, [], ◌∷◌, ◌++◌, Option, Some, None, codes, decimal, slice_index_or, if◌then◌else◌}
+use Rattle.std.specs.Prelude.{ℕ, Bool, List, codes, if◌then◌else◌}
 use Rattle.lb_model.specs.declared.member.Activation.{Activation}
 use Rattle.lb_model.specs.declared.member.Activation.TheVariants as activation
 use Rattle.lb_model.specs.declared.member.Method.{Method}

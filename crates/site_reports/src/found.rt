@@ -1,7 +1,6 @@
 //! The files of a site as a command judged them: what they give, or the first line that refuses them, each with its text.
 ghost use Rattle.std.specs.Prelude.{◌≡◌, ◌≤◌, Ok, Err, length, true};
 ghost use Rattle.jk_io.specs.declared.whole_input.TheConstants.{MAX_INPUT_BYTES};
-ghost use Rattle.site_config.specs.Refusals.{LineRefusal};
 ghost use Rattle.site_mounts.specs.Lines.{read_text};
 ghost use Rattle.site_mounts.specs.MapNotes.{map_notes};
 ghost use Rattle.site_mounts.specs.Sites.{stands_in};
@@ -12,8 +11,8 @@ ghost use Rattle.site_workers.specs.Site.{IsConfig, IsRefusedText};
 use crate::no_effect::WorkersNoteList;
 use crate::refused_part::RefusedPart;
 use jk_io::{Bytes, ListOf};
-use site_config::Config;
-use site_mounts::{MapNote, UriMap};
+use site_config::{Config, PropsRefusal};
+use site_mounts::{MapNote, MapRefusal, UriMap};
 
 /// A workers.properties that is accepted.
 #[derive(Drop)]
@@ -45,12 +44,11 @@ pub struct AcceptedSite {
 #[derive(Drop)]
 pub struct RefusedWorkers {
     pub text: Bytes,
-    pub line: u32,
-    pub code: u8,
+    pub refusal: PropsRefusal,
     pub part: RefusedPart,
     pub ghost short: { length text ≤ MAX_INPUT_BYTES },
-    pub ghost refused: { ∥ IsRefusedText text (record { line = line; code = code }) ∥₁ },
-    pub ghost told_apart: { IsRefusedPart part text (record { line = line; code = code }) },
+    pub ghost refused: { ∥ IsRefusedText text refusal ∥₁ },
+    pub ghost told_apart: { IsRefusedPart part text refusal },
 }
 
 /// A uriworkermap.properties that is refused, with its first refusal, and the workers.properties, which is accepted.
@@ -58,10 +56,9 @@ pub struct RefusedWorkers {
 pub struct RefusedMap {
     pub workers: AcceptedWorkers,
     pub text: Bytes,
-    pub line: u32,
-    pub code: u8,
+    pub refusal: MapRefusal,
     pub ghost short: { length text ≤ MAX_INPUT_BYTES },
-    pub ghost refused: { read_text workers.config text ≡ Err (record { line = line; code = code }) },
+    pub ghost refused: { read_text workers.config text ≡ Err refusal },
 }
 
 /// What a command found of the files of a site.

@@ -11,8 +11,8 @@ use crate::no_effect::WorkersNoteList;
 use crate::notes::notes_of;
 use crate::refused_part::RefusedPart;
 use jk_io::{Bytes, NoMemory};
-use site_config::{Config, PropertyLine, PropsError, read_entries};
-use site_mounts::{MapError, read_rules};
+use site_config::{Config, PropertyLine, PropsRefusal, WorkersError, read_entries};
+use site_mounts::{RulesError, read_rules};
 use site_workers::configure;
 use std::alloc::Global;
 
@@ -36,8 +36,7 @@ enum Judgement {
         notes: WorkersNoteList,
     },
     Refused {
-        line: u32,
-        code: u8,
+        refusal: PropsRefusal,
         part: RefusedPart,
     },
 }
@@ -52,12 +51,11 @@ fn judge_lines(alloc: Global, lines: &[PropertyLine<'_>]) -> Result<Judgement, N
             let notes = notes_of(alloc, &config, lines)?;
             Ok(Judgement::Accepted { config, notes })
         }
-        Err(PropsError::Refused { line, code }) => Ok(Judgement::Refused {
-            line,
-            code,
+        Err(WorkersError::Refused(refusal)) => Ok(Judgement::Refused {
+            refusal,
             part: RefusedPart::Workers,
         }),
-        Err(PropsError::NoMemory) => Err(NoMemory),
+        Err(WorkersError::NoMemory) => Err(NoMemory),
     }
 }
 
@@ -68,12 +66,11 @@ fn judge_text(alloc: Global, text: &[u8]) -> Result<Judgement, NoMemory>
 {
     match read_entries(alloc, true, text) {
         Ok(lines) => judge_lines(alloc, lines.as_slice()),
-        Err(PropsError::Refused { line, code }) => Ok(Judgement::Refused {
-            line,
-            code,
+        Err(WorkersError::Refused(refusal)) => Ok(Judgement::Refused {
+            refusal,
             part: RefusedPart::Line,
         }),
-        Err(PropsError::NoMemory) => Err(NoMemory),
+        Err(WorkersError::NoMemory) => Err(NoMemory),
     }
 }
 
@@ -91,11 +88,10 @@ pub fn judge_workers(alloc: Global, text: Bytes) -> Result<SiteFound, NoMemory>
             };
             Ok(SiteFound::Workers(accepted))
         }
-        Judgement::Refused { line, code, part } => {
+        Judgement::Refused { refusal, part } => {
             let refused = RefusedWorkers {
                 text,
-                line,
-                code,
+                refusal,
                 part,
             };
             Ok(SiteFound::WorkersRefused(refused))
@@ -115,13 +111,12 @@ fn judge_map(alloc: Global, workers: AcceptedWorkers, text: Bytes) -> Result<Sit
             rules: noted.map,
             notes: noted.notes,
         })),
-        Err(MapError::Refused { line, code }) => Ok(SiteFound::MapRefused(RefusedMap {
+        Err(RulesError::Refused(refusal)) => Ok(SiteFound::MapRefused(RefusedMap {
             workers,
             text,
-            line,
-            code,
+            refusal,
         })),
-        Err(MapError::NoMemory) => Err(NoMemory),
+        Err(RulesError::NoMemory) => Err(NoMemory),
     }
 }
 

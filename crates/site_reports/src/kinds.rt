@@ -3,7 +3,7 @@ ghost use Rattle.std.specs.Prelude.{◌≡◌, ◌∷◌, ◌++◌, [], ℕ, Lis
 ghost use Rattle.site_config.specs.declared.values.WorkerKind.{WorkerKind as AnyKind};
 ghost use Rattle.std.specs.List.{flat_map};
 ghost use Rattle.site_reports.specs.KindTables.{as_kinds, IsKindTable};
-ghost use Rattle.site_reports.specs.Notes.{balancer_kind, kinds_of, listed_kind, member_kinds, redirected_kind, redirected_kinds, redirecting};
+ghost use Rattle.site_reports.specs.Notes.{kinds_of, listed_kind, member_kinds, redirected_kind, redirected_kinds, redirecting};
 
 use jk_io::NoMemory;
 use lb_model::MemberConfig;

@@ -35,4 +35,7 @@ pub use match_text::put_matches;
 pub use no_effect::{NoEffect, WorkersNote, WorkersNoteList};
 pub use reading::{Judged, read_site};
 pub use refused_part::RefusedPart;
-pub use report::{Report, refusal_text, refusing_line, report_config, report_matches, report_site};
+pub use report::{
+    Report, map_refusal_text, refusing_line, report_config, report_matches, report_site,
+    workers_refusal_text,
+};

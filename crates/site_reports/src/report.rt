@@ -1,10 +1,9 @@
 //! Reports on a site's files, as `config` and `match` print them.
 ghost use Rattle.std.specs.Prelude.{◌≡◌, ◌++◌, ◌≤◌, length, IfOk, OnOk};
-ghost use Rattle.site_config.specs.Refusals.{LineRefusal};
 ghost use Rattle.site_reports.specs.ConfigText.{config_text};
 ghost use Rattle.site_reports.specs.Found.{FindsSite, FindsWorkers, PrintsFound, PrintsSite, is_refused, refusing_line};
 ghost use Rattle.site_reports.specs.Matches.{match_text};
-ghost use Rattle.site_reports.specs.Reports.{ReportsConfig, ReportsMatches, ReportsSite, refusal_line, rules_line};
+ghost use Rattle.site_reports.specs.Reports.{ReportsConfig, ReportsMatches, ReportsSite, map_refusal_line, refusal_line, rules_line, workers_refusal_line};
 ghost use Rattle.jk_io.specs.declared.whole_input.TheConstants.{MAX_INPUT_BYTES};
 
 use crate::config_text::put_config;
@@ -13,8 +12,8 @@ use crate::judging::{judge_site, judge_workers};
 use crate::match_text::put_matches;
 use crate::words::put_number;
 use jk_io::{Bytes, NoMemory};
-use site_config::Config;
-use site_mounts::UriMap;
+use site_config::{Config, PropsRefusal};
+use site_mounts::{MapRefusal, UriMap};
 use std::alloc::Global;
 
 /// What a command prints of a site's files, and what it found of them.
@@ -24,8 +23,8 @@ pub struct Report {
     pub found: SiteFound,
 }
 
-/// The first refusal of a file.
-pub fn refusal_text(alloc: Global, file: &[u8], line: u32, code: u8) -> Result<Bytes, NoMemory>
+/// The line of a refusal, with its number.
+fn refusal_text(alloc: Global, file: &[u8], line: u32, code: u8) -> Result<Bytes, NoMemory>
     ensures { IfOk result (λ text. text ≡ refusal_line file.now (record { line = line; code = code })) }
 {
     let mut text = Bytes::new(alloc);
@@ -34,6 +33,20 @@ pub fn refusal_text(alloc: Global, file: &[u8], line: u32, code: u8) -> Result<B
     put_number(&mut text, b": refusal ", u64::from(code))?;
     text.extend(b"\n")?;
     Ok(text)
+}
+
+/// The first refusal of a workers.properties.
+pub fn workers_refusal_text(alloc: Global, refusal: PropsRefusal) -> Result<Bytes, NoMemory>
+    ensures { IfOk result (λ text. text ≡ workers_refusal_line refusal) }
+{
+    refusal_text(alloc, b"workers", refusal.line, refusal.reason.code())
+}
+
+/// The first refusal of a uriworkermap.properties.
+pub fn map_refusal_text(alloc: Global, refusal: MapRefusal) -> Result<Bytes, NoMemory>
+    ensures { IfOk result (λ text. text ≡ map_refusal_line refusal) }
+{
+    refusal_text(alloc, b"map", refusal.line, refusal.reason.code())
 }
 
 fn put_rules(out: &mut Bytes, map: &UriMap) -> Result<(), NoMemory>
@@ -87,8 +100,8 @@ fn config_of(alloc: Global, found: &SiteFound) -> Result<Bytes, NoMemory>
     match found {
         SiteFound::Workers(workers) => of_config(alloc, &workers.config),
         SiteFound::Site(site) => of_rules(alloc, site),
-        SiteFound::WorkersRefused(r) => refusal_text(alloc, b"workers", r.line, r.code),
-        SiteFound::MapRefused(r) => refusal_text(alloc, b"map", r.line, r.code),
+        SiteFound::WorkersRefused(r) => workers_refusal_text(alloc, r.refusal),
+        SiteFound::MapRefused(r) => map_refusal_text(alloc, r.refusal),
     }
 }
 
@@ -104,8 +117,8 @@ fn matches_of(
     match found {
         SiteFound::Workers(_) => Ok(Bytes::new(alloc)),
         SiteFound::Site(site) => of_paths(alloc, site, paths, verbose),
-        SiteFound::WorkersRefused(r) => refusal_text(alloc, b"workers", r.line, r.code),
-        SiteFound::MapRefused(r) => refusal_text(alloc, b"map", r.line, r.code),
+        SiteFound::WorkersRefused(r) => workers_refusal_text(alloc, r.refusal),
+        SiteFound::MapRefused(r) => map_refusal_text(alloc, r.refusal),
     }
 }
 
@@ -114,8 +127,8 @@ pub fn refusing_line(alloc: Global, found: &Option<SiteFound>) -> Result<Bytes, 
     ensures { IfOk result (λ line. line ≡ refusing_line found.now) }
 {
     match found {
-        Some(SiteFound::WorkersRefused(r)) => refusal_text(alloc, b"workers", r.line, r.code),
-        Some(SiteFound::MapRefused(r)) => refusal_text(alloc, b"map", r.line, r.code),
+        Some(SiteFound::WorkersRefused(r)) => workers_refusal_text(alloc, r.refusal),
+        Some(SiteFound::MapRefused(r)) => map_refusal_text(alloc, r.refusal),
         Some(SiteFound::Workers(_) | SiteFound::Site(_)) => Ok(Bytes::new(alloc)),
         None => Ok(Bytes::from_slice(alloc, b"too long\n")?),
     }

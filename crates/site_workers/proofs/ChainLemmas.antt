@@ -7,10 +7,11 @@ use Rattle.std.specs.Str.{bytes_eq}
 use Rattle.site_config.specs.declared.property.Property.{Property}
 use Rattle.site_config.specs.declared.directive.Directive.{Directive}
 use Rattle.site_config.specs.declared.directive.Directive.TheVariants as directive
-use Rattle.site_config.specs.declared.error.PropsError.{PropsError}
-use Rattle.site_config.specs.declared.error.PropsError.TheVariants as errors
+use Rattle.site_config.specs.declared.error.WorkersError.{WorkersError}
+use Rattle.site_config.specs.declared.error.WorkersError.TheVariants as errors
 use Rattle.site_config.specs.Directives.{name_of, worker_part}
-use Rattle.site_config.specs.Refusals.{LineRefusal, IsRefusal}
+use Rattle.site_config.specs.declared.error.PropsRefusal.{PropsRefusal}
+use Rattle.site_config.specs.Refusals.{IsRefusal}
 use Rattle.site_workers.specs.Ways.{IsBrokenWalk}
 use Rattle.site_workers.specs.Given.{IsChain, concerns, gives, is_given, is_among, last_given, names_both, names_worker, target_at, target_in, not_passed, Walks, BreaksAt}
 
@@ -99,10 +100,10 @@ pub unknown_chain : (ps : List Property) (name : List ℕ) → is_given ps name 
 unknown_chain ps name e = ap target_in (none_given ps name directive.Reference e)
 
 -- a worker whose references end meets no broken reference
-pub not_broken : (ps : List Property) (name : List ℕ) (more : List (List ℕ)) (so : LineRefusal → Type 0) (e : PropsError) → IsChain ps name more → IsBrokenWalk ps name e → IsRefusal so e
-not_broken ps name more so (errors.Refused line code) chain broken = absurd (chain_or_break ps name more line chain broken.0)
+pub not_broken : (ps : List Property) (name : List ℕ) (more : List (List ℕ)) (so : PropsRefusal → Type 0) (e : WorkersError) → IsChain ps name more → IsBrokenWalk ps name e → IsRefusal so e
+not_broken ps name more so (errors.Refused r) chain broken = absurd (chain_or_break ps name more broken.0 chain broken.1)
 not_broken ps name more so errors.NoMemory chain broken = tt
 
-pub only_memory : (ps : List Property) (name : List ℕ) (more : List (List ℕ)) (e : PropsError) → IsChain ps name more → IsBrokenWalk ps name e → e ≡ errors.NoMemory
-only_memory ps name more (errors.Refused line code) chain broken = absurd (chain_or_break ps name more line chain broken.0)
+pub only_memory : (ps : List Property) (name : List ℕ) (more : List (List ℕ)) (e : WorkersError) → IsChain ps name more → IsBrokenWalk ps name e → e ≡ errors.NoMemory
+only_memory ps name more (errors.Refused r) chain broken = absurd (chain_or_break ps name more broken.0 chain broken.1)
 only_memory ps name more errors.NoMemory chain broken = refl

@@ -7,10 +7,11 @@ use Rattle.lb_model.specs.declared.member.MemberConfig.{MemberConfig}
 use Rattle.lb_model.specs.declared.member.Method.{Method}
 use Rattle.site_config.specs.declared.directive.Directive.{Directive}
 use Rattle.site_config.specs.declared.directive.Directive.TheVariants as directive
-use Rattle.site_config.specs.declared.error.PropsError.{PropsError}
+use Rattle.site_config.specs.declared.error.WorkersError.{WorkersError}
 use Rattle.site_config.specs.declared.property.Property.{Property}
 use Rattle.site_config.specs.declared.values.WorkerKind.TheVariants as kind
-use Rattle.site_config.specs.Refusals.{IsRefusal, LineRefusal}
+use Rattle.site_config.specs.declared.error.PropsRefusal.{PropsRefusal}
+use Rattle.site_config.specs.Refusals.{IsRefusal}
 use Rattle.site_config.specs.declared.balancer.Lb.{Lb}
 use Rattle.site_config.specs.declared.endpoint.Endpoint.{Endpoint}
 use Rattle.site_workers.specs.declared.draft.Draft.{Draft}
@@ -45,7 +46,7 @@ is_too_wide maintain recover ms (Ok b) some few within m p h = tt
 is_too_wide maintain recover ms (Err e) some few within m p h = book_refused maintain recover ms e some few within m p h
 
 -- the book with its texts
-pub made_lb : (v : Directive → Option Property) (maintain : ℕ) (name cookie path : List ℕ) (book : LbConfig) (ms : List MemberConfig) (es all : List Endpoint) (r : Result Lb PropsError) → IsBook v maintain ms book → all ≡ map (shared (text_in (v directive.Secret))) es → cookie ≡ filled_or (codes "JSESSIONID") (v directive.Cookie) → path ≡ filled_or (codes ";jsessionid") (v directive.Path)
+pub made_lb : (v : Directive → Option Property) (maintain : ℕ) (name cookie path : List ℕ) (book : LbConfig) (ms : List MemberConfig) (es all : List Endpoint) (r : Result Lb WorkersError) → IsBook v maintain ms book → all ≡ map (shared (text_in (v directive.Secret))) es → cookie ≡ filled_or (codes "JSESSIONID") (v directive.Cookie) → path ≡ filled_or (codes ";jsessionid") (v directive.Path)
     → IfOk r (IsBalancerOf name cookie path book all) → IfOk r (IsLbOf v maintain name ms es)
 made_lb v maintain name cookie path book ms es all (Ok lb) b s c p h = record {
   named = h.named;
@@ -57,7 +58,7 @@ made_lb v maintain name cookie path book ms es all (Ok lb) b s c p h = record {
 made_lb v maintain name cookie path book ms es all (Err e) b s c p h = tt
 
 -- the balancer of the members that were looked at
-pub listed_lb : (ps : List Property) (v : Directive → Option Property) (maintain : ℕ) (name : List ℕ) (ls : List Listing) (ms : List MemberConfig) (es : List Endpoint) (r : Result Lb PropsError) → AreMembers ps (routes_of ms) 0 ls ms es → IfOk r (IsLbOf v maintain name ms es) → IfOk r (IsLb ps v maintain name ls)
+pub listed_lb : (ps : List Property) (v : Directive → Option Property) (maintain : ℕ) (name : List ℕ) (ls : List Listing) (ms : List MemberConfig) (es : List Endpoint) (r : Result Lb WorkersError) → AreMembers ps (routes_of ms) 0 ls ms es → IfOk r (IsLbOf v maintain name ms es) → IfOk r (IsLb ps v maintain name ls)
 listed_lb ps v maintain name ls ms es (Ok lb) members h = record {
   named = h.named;
   method = h.booked.method;
@@ -74,12 +75,12 @@ listed_lb ps v maintain name ls ms es (Ok lb) members h = record {
 }
 listed_lb ps v maintain name ls ms es (Err e) members h = tt
 
-pub listed_wide : (ps : List Property) (line : ℕ) (ls : List Listing) (ms : List MemberConfig) (es : List Endpoint) (r : Result Lb PropsError) → 1 ≤ length ls → length ls ≤ 64 → AreMembers ps (routes_of ms) 0 ls ms es → IfErr r (IsRefusal (RefusesWide ms line)) → IfErr r (IsRefusal (RefusesBook ps line ls))
+pub listed_wide : (ps : List Property) (line : ℕ) (ls : List Listing) (ms : List MemberConfig) (es : List Endpoint) (r : Result Lb WorkersError) → 1 ≤ length ls → length ls ≤ 64 → AreMembers ps (routes_of ms) 0 ls ms es → IfErr r (IsRefusal (RefusesWide ms line)) → IfErr r (IsRefusal (RefusesBook ps line ls))
 listed_wide ps line ls ms es r some few members h =
     wider_refused r (RefusesWide ms line) (RefusesBook ps line ls) h (λ x w. inr (inr (ms, es, some, few, members, w.0, w.1)))
 
 -- the members that are looked at are those of the line, each once
-pub members_refused : (ps : List Property) (count : ℕ) (l : Listing) (v : Directive → Option Property) (ms all : List Listing) → ms ≡ firsts all → (r : LineRefusal) → RefusesMembers ps count l ms r → RefusesLb ps count l v all r
+pub members_refused : (ps : List Property) (count : ℕ) (l : Listing) (v : Directive → Option Property) (ms all : List Listing) → ms ≡ firsts all → (r : PropsRefusal) → RefusesMembers ps count l ms r → RefusesLb ps count l v all r
 members_refused ps count l v ms all are r h =
     ⊎_elim
     (λ b. inl (bad_listed (HasChain ps) (Breaks ps) ms all r are b))
@@ -92,7 +93,7 @@ members_refused ps count l v ms all are r h =
     k)
     h
 
-pub passed_refused : (ps : List Property) (count : ℕ) (l : Listing) (v : Directive → Option Property) (ms all : List Listing) → ms ≡ firsts all → Pass ps count ms → (r : LineRefusal) → RefusesBook ps (line_in (v directive.Kind)) ms r → RefusesLb ps count l v all r
+pub passed_refused : (ps : List Property) (count : ℕ) (l : Listing) (v : Directive → Option Property) (ms all : List Listing) → ms ≡ firsts all → Pass ps count ms → (r : PropsRefusal) → RefusesBook ps (line_in (v directive.Kind)) ms r → RefusesLb ps count l v all r
 passed_refused ps count l v ms all are p r h =
     inr (inr (inr (inr (each_listed (λ n. is_given ps n ≡ true) ms all are p.known, p.room, each_listed (λ n. HasKind ps n kind.Ajp13) ms all are p.ajp13, subst (λ (xs : List Listing). RefusesBook ps (line_in (v directive.Kind)) xs r) are h))))
 

@@ -13,7 +13,7 @@ use Rattle.std.specs.Str.{bytes_eq}
 use Rattle.site_config.specs.declared.property.Property.{Property}
 use Rattle.site_config.specs.declared.directive.Directive.TheVariants as directive
 use Rattle.site_config.specs.Directives.{name_of, worker_part}
-use Rattle.site_config.specs.Refusals.{LineRefusal}
+use Rattle.site_config.specs.declared.error.PropsRefusal.{PropsRefusal}
 use Rattle.site_workers.specs.declared.listing.Listing as declared
 use Rattle.site_workers.specs.Given.{concerns, gives, is_given, names_both, names_worker}
 use Rattle.site_workers.specs.Lists.{Listing, drop_name, firsts, listings_of, members_in, name_part, own_members}
@@ -175,7 +175,7 @@ pub each_listed : (fine : List ℕ → Type 0) (ms ls : List Listing) → ms ≡
 each_listed fine ms ls are e = each_unfirst fine ls (subst (λ (xs : List Listing). Each (λ l. fine l.name) xs) are e)
 
 -- the first of a list's first places that isn't fine is the first of the list
-bad_undrop : (fine : List ℕ → Type 0) (bad : Listing → LineRefusal → Type 0) (name : List ℕ) (ls : List Listing) (r : LineRefusal) → fine name → FirstBad (λ l. fine l.name) bad (drop_name name ls) r → FirstBad (λ l. fine l.name) bad ls r
+bad_undrop : (fine : List ℕ → Type 0) (bad : Listing → PropsRefusal → Type 0) (name : List ℕ) (ls : List Listing) (r : PropsRefusal) → fine name → FirstBad (λ l. fine l.name) bad (drop_name name ls) r → FirstBad (λ l. fine l.name) bad ls r
 bad_undrop fine bad name [] r f b = b
 bad_undrop fine bad name (l ∷ ls) r f b = by_test (bytes_eq l.name name) refl (bad_undrop fine bad name ls r f) b
   where
@@ -183,9 +183,9 @@ bad_undrop fine bad name (l ∷ ls) r f b = by_test (bytes_eq l.name name) refl 
     by_test true same rest b = inr (subst fine (sym ((bytes_eq-Decides l.name name).0 same)) f, rest b)
     by_test false other rest b = ⊎_elim (λ h. inl h) (λ h. inr (h.0, rest h.1)) b
 
-bad_unfirst : (fine : List ℕ → Type 0) (bad : Listing → LineRefusal → Type 0) (ls : List Listing) (r : LineRefusal) → FirstBad (λ l. fine l.name) bad (firsts ls) r → FirstBad (λ l. fine l.name) bad ls r
+bad_unfirst : (fine : List ℕ → Type 0) (bad : Listing → PropsRefusal → Type 0) (ls : List Listing) (r : PropsRefusal) → FirstBad (λ l. fine l.name) bad (firsts ls) r → FirstBad (λ l. fine l.name) bad ls r
 bad_unfirst fine bad [] r b = b
 bad_unfirst fine bad (l ∷ ls) r b = ⊎_elim (λ h. inl h) (λ h. inr (h.0, bad_unfirst fine bad ls r (bad_undrop fine bad l.name (firsts ls) r h.0 h.1))) b
 
-pub bad_listed : (fine : List ℕ → Type 0) (bad : Listing → LineRefusal → Type 0) (ms ls : List Listing) (r : LineRefusal) → ms ≡ firsts ls → FirstBad (λ l. fine l.name) bad ms r → FirstBad (λ l. fine l.name) bad ls r
+pub bad_listed : (fine : List ℕ → Type 0) (bad : Listing → PropsRefusal → Type 0) (ms ls : List Listing) (r : PropsRefusal) → ms ≡ firsts ls → FirstBad (λ l. fine l.name) bad ms r → FirstBad (λ l. fine l.name) bad ls r
 bad_listed fine bad ms ls r are b = bad_unfirst fine bad ls r (subst (λ (xs : List Listing). FirstBad (λ l. fine l.name) bad xs r) are b)

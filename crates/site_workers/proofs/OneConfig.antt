@@ -13,7 +13,7 @@ use Rattle.site_config.specs.declared.directive.Directive.TheVariants as directi
 use Rattle.site_config.specs.declared.values.WorkerKind.{WorkerKind}
 use Rattle.site_config.specs.declared.values.WorkerKind.TheVariants as kind
 use Rattle.site_config.specs.Properties.{read_text}
-use Rattle.site_config.specs.Refusals.{LineRefusal}
+use Rattle.site_config.specs.declared.error.PropsRefusal.{PropsRefusal}
 use Rattle.site_config.specs.declared.balancer.Lb.{Lb}
 use Rattle.site_config.specs.declared.config.Config.{Config}
 use Rattle.site_config.specs.declared.config.Status.{Status}
@@ -236,7 +236,7 @@ builds_one ps maintain (l ∷ ls) old a b x y =
     let mid = adds_one ps maintain l old y.0 x.0 y.1 x.1 in
     builds_one ps maintain ls x.0 a b x.2 (subst (λ (d : Draft). Builds ps maintain ls d b) mid y.2)
 
-pub same_properties : (a b : List Property) (r : Result (List Property) LineRefusal) → r ≡ Ok a → r ≡ Ok b → a ≡ b
+pub same_properties : (a b : List Property) (r : Result (List Property) PropsRefusal) → r ≡ Ok a → r ≡ Ok b → a ≡ b
 same_properties a b r x y = cc
 
 -- a text has one configuration

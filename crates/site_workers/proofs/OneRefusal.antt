@@ -12,7 +12,8 @@ use Rattle.site_config.specs.declared.error.PropsReason.TheVariants as reason
 use Rattle.site_config.specs.declared.values.WorkerKind.{WorkerKind}
 use Rattle.site_config.specs.declared.values.WorkerKind.TheVariants as kind
 use Rattle.site_config.specs.Properties.{read_text}
-use Rattle.site_config.specs.Refusals.{LineRefusal, refusal}
+use Rattle.site_config.specs.declared.error.PropsRefusal.{PropsRefusal}
+use Rattle.site_config.specs.Refusals.{refusal}
 use Rattle.site_config.specs.declared.balancer.Lb.{Lb}
 use Rattle.site_config.specs.declared.config.Config.{Config}
 use Rattle.site_config.specs.declared.endpoint.Endpoint.{Endpoint}
@@ -89,50 +90,50 @@ break_one ps start line also a b =
     ]
 
 -- of two causes, of which the second doesn't come where the first does, there is one refusal
-either_one : (A B : LineRefusal → Type 0) → ((r s : LineRefusal) → A r → A s → r ≡ s) → ((r s : LineRefusal) → B r → B s → r ≡ s)
-    → ((r s : LineRefusal) → A r → B s → ⊥) → (r s : LineRefusal) → (A r ⊎ B r) → (A s ⊎ B s) → r ≡ s
+either_one : (A B : PropsRefusal → Type 0) → ((r s : PropsRefusal) → A r → A s → r ≡ s) → ((r s : PropsRefusal) → B r → B s → r ≡ s)
+    → ((r s : PropsRefusal) → A r → B s → ⊥) → (r s : PropsRefusal) → (A r ⊎ B r) → (A s ⊎ B s) → r ≡ s
 either_one A B one other apart r s (inl x) (inl y) = one r s x y
 either_one A B one other apart r s (inl x) (inr y) = absurd (apart r s x y)
 either_one A B one other apart r s (inr x) (inl y) = absurd (apart s r y x)
 either_one A B one other apart r s (inr x) (inr y) = other r s x y
 
 -- the first of a list that isn't fine has the refusal
-first_one : (fine : Listing → Type 0) (bad : Listing → LineRefusal → Type 0) → ((l : Listing) (r s : LineRefusal) → bad l r → bad l s → r ≡ s)
-    → ((l : Listing) (r : LineRefusal) → fine l → bad l r → ⊥) → (ls : List Listing) (r s : LineRefusal) → FirstBad fine bad ls r → FirstBad fine bad ls s → r ≡ s
+first_one : (fine : Listing → Type 0) (bad : Listing → PropsRefusal → Type 0) → ((l : Listing) (r s : PropsRefusal) → bad l r → bad l s → r ≡ s)
+    → ((l : Listing) (r : PropsRefusal) → fine l → bad l r → ⊥) → (ls : List Listing) (r s : PropsRefusal) → FirstBad fine bad ls r → FirstBad fine bad ls s → r ≡ s
 first_one fine bad one apart [] r s x y = absurd x
 first_one fine bad one apart (l ∷ ls) r s (inl x) (inl y) = one l r s x y
 first_one fine bad one apart (l ∷ ls) r s (inl x) (inr y) = absurd (apart l r y.0 x)
 first_one fine bad one apart (l ∷ ls) r s (inr x) (inl y) = absurd (apart l s x.0 y)
 first_one fine bad one apart (l ∷ ls) r s (inr x) (inr y) = first_one fine bad one apart ls r s x.1 y.1
 
-none_bad : (fine : Listing → Type 0) (bad : Listing → LineRefusal → Type 0) → ((l : Listing) (r : LineRefusal) → fine l → bad l r → ⊥)
-    → (ls : List Listing) (r : LineRefusal) → Each fine ls → FirstBad fine bad ls r → ⊥
+none_bad : (fine : Listing → Type 0) (bad : Listing → PropsRefusal → Type 0) → ((l : Listing) (r : PropsRefusal) → fine l → bad l r → ⊥)
+    → (ls : List Listing) (r : PropsRefusal) → Each fine ls → FirstBad fine bad ls r → ⊥
 none_bad fine bad apart [] r each x = x
 none_bad fine bad apart (l ∷ ls) r each (inl x) = apart l r each.0 x
 none_bad fine bad apart (l ∷ ls) r each (inr x) = none_bad fine bad apart ls r each.1 x.1
 
 -- Below, the lines are these.
 module _ (ps : List Property) where
-  breaks_one : (l : Listing) (r s : LineRefusal) → Breaks ps l r → Breaks ps l s → r ≡ s
+  breaks_one : (l : Listing) (r s : PropsRefusal) → Breaks ps l r → Breaks ps l s → r ≡ s
   breaks_one l r s x y = x.2 ∙ ap (λ (line : ℕ). refusal line reason.BadReference) (break_one ps l.name x.0 y.0 x.1 y.1) ∙ sym y.2
 
-  never_breaks : (l : Listing) (r : LineRefusal) → Chained ps l → Breaks ps l r → ⊥
+  never_breaks : (l : Listing) (r : PropsRefusal) → Chained ps l → Breaks ps l r → ⊥
   never_breaks l r h x = chain_or_break ps l.name h.0 x.0 h.1 x.1
 
-  unknown_one : (l : Listing) (r s : LineRefusal) → IsUnknown ps l r → IsUnknown ps l s → r ≡ s
+  unknown_one : (l : Listing) (r s : PropsRefusal) → IsUnknown ps l r → IsUnknown ps l s → r ≡ s
   unknown_one l r s x y = x.1 ∙ sym y.1
 
-  never_unknown : (l : Listing) (r : LineRefusal) → Known ps l → IsUnknown ps l r → ⊥
+  never_unknown : (l : Listing) (r : PropsRefusal) → Known ps l → IsUnknown ps l r → ⊥
   never_unknown l r h x = false≢true (sym x.0 ∙ h)
 
   type_one : (name : List ℕ) (j k : WorkerKind) → HasKind ps name j → HasKind ps name k → j ≡ k
   type_one name j k a b =
       sym a.2 ∙ ap (λ (c : List (List ℕ)). kind_in (in_force ps name c directive.Kind)) (chain_one ps name a.0 b.0 a.1 b.1) ∙ b.2
 
-  other_type_one : (l : Listing) (r s : LineRefusal) → IsNoAjp13 ps l r → IsNoAjp13 ps l s → r ≡ s
+  other_type_one : (l : Listing) (r s : PropsRefusal) → IsNoAjp13 ps l r → IsNoAjp13 ps l s → r ≡ s
   other_type_one l r s x y = x.1 ∙ sym y.1
 
-  never_other_type : (l : Listing) (r : LineRefusal) → IsAjp13 ps l → IsNoAjp13 ps l r → ⊥
+  never_other_type : (l : Listing) (r : PropsRefusal) → IsAjp13 ps l → IsNoAjp13 ps l r → ⊥
   never_other_type l r h x = x.0.1 (type_one l.name x.0.0 kind.Ajp13 x.0.2 h)
 
   chained_each : (ls : List Listing) → Each (IsAjp13 ps) ls → Each (Chained ps) ls
@@ -140,119 +141,119 @@ module _ (ps : List Property) where
   chained_each (l ∷ ls) each = ((each.0.0, each.0.1), chained_each ls each.1)
 
   -- the causes of an lb, each with those after it
-  abbrev FromBook : ℕ → (Directive → Option Property) → List Listing → LineRefusal → Type 0
+  abbrev FromBook : ℕ → (Directive → Option Property) → List Listing → PropsRefusal → Type 0
   FromBook count v members r =
       Each (Known ps) members × (count < 1024) × Each (IsAjp13 ps) members × RefusesBook ps (line_in (v directive.Kind)) (firsts members) r
 
-  abbrev FromType : ℕ → List Listing → LineRefusal → Type 0
+  abbrev FromType : ℕ → List Listing → PropsRefusal → Type 0
   FromType count members r = Each (Chained ps) members × Each (Known ps) members × (count < 1024) × FirstBad (IsAjp13 ps) (IsNoAjp13 ps) members r
 
-  abbrev FromCount : ℕ → Listing → List Listing → LineRefusal → Type 0
-  FromCount count l members r = Each (Chained ps) members × Each (Known ps) members × (1024 ≤ count) × (r ≡ refusal l.line reason.BadValue)
+  abbrev FromCount : ℕ → Listing → List Listing → PropsRefusal → Type 0
+  FromCount count l members r = Each (Chained ps) members × Each (Known ps) members × (1024 ≤ count) × (r ≡ refusal l.line reason.TooManyBalancers)
 
-  abbrev FromUnknown : List Listing → LineRefusal → Type 0
+  abbrev FromUnknown : List Listing → PropsRefusal → Type 0
   FromUnknown members r = Each (Chained ps) members × FirstBad (Known ps) (IsUnknown ps) members r
 
-  abbrev TooWide : ℕ → List Listing → LineRefusal → Type 0
+  abbrev TooWide : ℕ → List Listing → PropsRefusal → Type 0
   TooWide line members r =
       (ms : List MemberConfig) × (es : List Endpoint) × (1 ≤ length members) × (length members ≤ 64)
       × AreMembers ps (routes_of ms) 0 members ms es × (2 ^ 32 ≤ multiple_of (factors_in ms)) × (r ≡ refusal line reason.TooWide)
 
-  abbrev TooMany : ℕ → List Listing → LineRefusal → Type 0
+  abbrev TooMany : ℕ → List Listing → PropsRefusal → Type 0
   TooMany line members r = (64 < length members) × (r ≡ refusal line reason.TooManyMembers)
 
-  abbrev TooFew : ℕ → List Listing → LineRefusal → Type 0
+  abbrev TooFew : ℕ → List Listing → PropsRefusal → Type 0
   TooFew line members r = (length members ≡ 0) × (r ≡ refusal line reason.NoMembers)
 
-  book_one : (line : ℕ) (members : List Listing) (r s : LineRefusal) → RefusesBook ps line members r → RefusesBook ps line members s → r ≡ s
+  book_one : (line : ℕ) (members : List Listing) (r s : PropsRefusal) → RefusesBook ps line members r → RefusesBook ps line members s → r ≡ s
   book_one line members =
       either_one (TooFew line members) (λ r. TooMany line members r ⊎ TooWide line members r)
       (λ r s x y. x.1 ∙ sym y.1)
       (either_one (TooMany line members) (TooWide line members) (λ r s x y. x.1 ∙ sym y.1) (λ r s x y. x.6 ∙ sym y.6) (λ r s x y. omega (arith, x.0, y.3)))
       some
     where
-      some : (r s : LineRefusal) → TooFew line members r → (TooMany line members s ⊎ TooWide line members s) → ⊥
+      some : (r s : PropsRefusal) → TooFew line members r → (TooMany line members s ⊎ TooWide line members s) → ⊥
       some r s x (inl y) = omega (arith, x.0, y.0)
       some r s x (inr y) = omega (arith, x.0, y.2)
 
-  lb_one : (count : ℕ) (l : Listing) (v : Directive → Option Property) (members : List Listing) (r s : LineRefusal)
+  lb_one : (count : ℕ) (l : Listing) (v : Directive → Option Property) (members : List Listing) (r s : PropsRefusal)
       → RefusesLb ps count l v members r → RefusesLb ps count l v members s → r ≡ s
   lb_one count l v members =
       either_one (FirstBad (Chained ps) (Breaks ps) members) Second (first_one (Chained ps) (Breaks ps) breaks_one never_breaks members) second_one
       (λ r s x y. none_bad (Chained ps) (Breaks ps) never_breaks members r (chained s y) x)
     where
-      Fourth : LineRefusal → Type 0
+      Fourth : PropsRefusal → Type 0
       Fourth r = FromType count members r ⊎ FromBook count v members r
 
-      Third : LineRefusal → Type 0
+      Third : PropsRefusal → Type 0
       Third r = FromCount count l members r ⊎ Fourth r
 
-      Second : LineRefusal → Type 0
+      Second : PropsRefusal → Type 0
       Second r = FromUnknown members r ⊎ Third r
 
-      few : (s : LineRefusal) → Fourth s → count < 1024
+      few : (s : PropsRefusal) → Fourth s → count < 1024
       few s (inl y) = y.2
       few s (inr y) = y.1
 
-      known : (s : LineRefusal) → Third s → Each (Known ps) members
+      known : (s : PropsRefusal) → Third s → Each (Known ps) members
       known s (inl y) = y.1
       known s (inr (inl y)) = y.1
       known s (inr (inr y)) = y.0
 
-      chained : (s : LineRefusal) → Second s → Each (Chained ps) members
+      chained : (s : PropsRefusal) → Second s → Each (Chained ps) members
       chained s (inl y) = y.0
       chained s (inr (inl y)) = y.0
       chained s (inr (inr (inl y))) = y.0
       chained s (inr (inr (inr y))) = chained_each members y.2
 
-      fourth_one : (r s : LineRefusal) → Fourth r → Fourth s → r ≡ s
+      fourth_one : (r s : PropsRefusal) → Fourth r → Fourth s → r ≡ s
       fourth_one =
           either_one (FromType count members) (FromBook count v members)
           (λ r s x y. first_one (IsAjp13 ps) (IsNoAjp13 ps) other_type_one never_other_type members r s x.3 y.3)
           (λ r s x y. book_one (line_in (v directive.Kind)) (firsts members) r s x.3 y.3)
           (λ r s x y. none_bad (IsAjp13 ps) (IsNoAjp13 ps) never_other_type members r y.2 x.3)
 
-      third_one : (r s : LineRefusal) → Third r → Third s → r ≡ s
+      third_one : (r s : PropsRefusal) → Third r → Third s → r ≡ s
       third_one =
           either_one (FromCount count l members) Fourth (λ r s x y. x.3 ∙ sym y.3) fourth_one
           (λ r s x y. omega (arith, x.2, few s y))
 
-      second_one : (r s : LineRefusal) → Second r → Second s → r ≡ s
+      second_one : (r s : PropsRefusal) → Second r → Second s → r ≡ s
       second_one =
           either_one (FromUnknown members) Third
           (λ r s x y. first_one (Known ps) (IsUnknown ps) unknown_one never_unknown members r s x.1 y.1) third_one
           (λ r s x y. none_bad (Known ps) (IsUnknown ps) never_unknown members r (known s y) x.1)
 
-  kind_one : (count : ℕ) (l : Listing) (v : Directive → Option Property) (k : WorkerKind) (r s : LineRefusal) → RefusesKind ps count l v k r → RefusesKind ps count l v k s → r ≡ s
+  kind_one : (count : ℕ) (l : Listing) (v : Directive → Option Property) (k : WorkerKind) (r s : PropsRefusal) → RefusesKind ps count l v k r → RefusesKind ps count l v k s → r ≡ s
   kind_one count l v kind.Status r s x y = absurd x
   kind_one count l v kind.Ajp13 r s x y = x.1 ∙ sym y.1
   kind_one count l v kind.Lb r s x y = lb_one count l v (members_in ps (v directive.BalanceWorkers)) r s x y
 
   -- a listed worker's refusal by its type
-  abbrev ByKind : ℕ → Listing → LineRefusal → Type 0
+  abbrev ByKind : ℕ → Listing → PropsRefusal → Type 0
   ByKind count l r =
       Known ps l × (more : List (List ℕ)) × IsChain ps l.name more
       × RefusesKind ps count l (in_force ps l.name more) (kind_in (in_force ps l.name more directive.Kind)) r
 
-  by_kind_one : (count : ℕ) (l : Listing) (r s : LineRefusal) → ByKind count l r → ByKind count l s → r ≡ s
+  by_kind_one : (count : ℕ) (l : Listing) (r s : PropsRefusal) → ByKind count l r → ByKind count l s → r ≡ s
   by_kind_one count l r s x y =
       let chains = chain_one ps l.name y.1 x.1 y.2 x.2 in
       let also : RefusesKind ps count l (in_force ps l.name x.1) (kind_in (in_force ps l.name x.1 directive.Kind)) s =
       subst (λ (c : List (List ℕ)). RefusesKind ps count l (in_force ps l.name c) (kind_in (in_force ps l.name c directive.Kind)) s) chains y.3 in
       kind_one count l (in_force ps l.name x.1) (kind_in (in_force ps l.name x.1 directive.Kind)) r s x.3 also
 
-  refuses_one : (count : ℕ) (l : Listing) (r s : LineRefusal) → RefusesListing ps count l r → RefusesListing ps count l s → r ≡ s
+  refuses_one : (count : ℕ) (l : Listing) (r s : PropsRefusal) → RefusesListing ps count l r → RefusesListing ps count l s → r ≡ s
   refuses_one count l =
       either_one (Breaks ps l) (λ r. IsUnknown ps l r ⊎ ByKind count l r) (breaks_one l)
       (either_one (IsUnknown ps l) (ByKind count l) (unknown_one l) (by_kind_one count l) (λ r s x y. never_unknown l r y.0 x))
       apart
     where
-      apart : (r s : LineRefusal) → Breaks ps l r → (IsUnknown ps l s ⊎ ByKind count l s) → ⊥
+      apart : (r s : PropsRefusal) → Breaks ps l r → (IsUnknown ps l s ⊎ ByKind count l s) → ⊥
       apart r s x (inl y) = chain_or_break ps l.name [] x.0 (unknown_chain ps l.name y.0) x.1
       apart r s x (inr y) = chain_or_break ps l.name y.1 x.0 y.2 x.1
 
   -- a balancer that is built is none that is refused
-  never_book : (v : Directive → Option Property) (maintain line : ℕ) (name : List ℕ) (ls : List Listing) (lb : Lb) (r : LineRefusal)
+  never_book : (v : Directive → Option Property) (maintain line : ℕ) (name : List ℕ) (ls : List Listing) (lb : Lb) (r : PropsRefusal)
       → IsLb ps v maintain name ls lb → RefusesBook ps line ls r → ⊥
   never_book v maintain line name ls lb r is (inl x) =
       let counted = members_counted ps (routes_of lb.book.members) 0 ls lb.book.members is.own is.members in
@@ -265,7 +266,7 @@ module _ (ps : List Property) where
       let wide : 2 ^ 32 ≤ multiple_of (factors_in lb.book.members) = subst (λ (ms : List MemberConfig). 2 ^ 32 ≤ multiple_of (factors_in ms)) same.0 x.5 in
       omega (arith, wide, lb.book.narrow)
 
-  never_lb : (count : ℕ) (l : Listing) (v : Directive → Option Property) (maintain : ℕ) (members : List Listing) (lb : Lb) (r : LineRefusal)
+  never_lb : (count : ℕ) (l : Listing) (v : Directive → Option Property) (maintain : ℕ) (members : List Listing) (lb : Lb) (r : PropsRefusal)
       → count < 1024 → Each (Known ps) members → Each (IsAjp13 ps) members → IsLb ps v maintain l.name (firsts members) lb → RefusesLb ps count l v members r → ⊥
   never_lb count l v maintain members lb r few known typed is (inl x) = none_bad (Chained ps) (Breaks ps) never_breaks members r (chained_each members typed) x
   never_lb count l v maintain members lb r few known typed is (inr (inl x)) = none_bad (Known ps) (IsUnknown ps) never_unknown members r known x.1
@@ -274,7 +275,7 @@ module _ (ps : List Property) where
   never_lb count l v maintain members lb r few known typed is (inr (inr (inr (inr x)))) =
       never_book v maintain (line_in (v directive.Kind)) l.name (firsts members) lb r is x.3
 
-  never_kind : (maintain : ℕ) (l : Listing) (v : Directive → Option Property) (k : WorkerKind) (old new : Draft) (r : LineRefusal)
+  never_kind : (maintain : ℕ) (l : Listing) (v : Directive → Option Property) (k : WorkerKind) (old new : Draft) (r : PropsRefusal)
       → AddsKind ps maintain l v k old new → RefusesKind ps (length old.lbs) l v k r → ⊥
   never_kind maintain l v kind.Status old new r a x = x
   never_kind maintain l v kind.Ajp13 old new r a x = omega (arith, a.0, x.0)
@@ -282,7 +283,7 @@ module _ (ps : List Property) where
       never_lb (length old.lbs) l v maintain (members_in ps (v directive.BalanceWorkers)) a.3 r a.0 a.1 a.2 a.4 x
 
   -- a worker that is added isn't refused
-  never_refused : (maintain : ℕ) (l : Listing) (old new : Draft) (r : LineRefusal) → AddsListing ps maintain l old new → RefusesListing ps (length old.lbs) l r → ⊥
+  never_refused : (maintain : ℕ) (l : Listing) (old new : Draft) (r : PropsRefusal) → AddsListing ps maintain l old new → RefusesListing ps (length old.lbs) l r → ⊥
   never_refused maintain l old new r a (inl x) = chain_or_break ps l.name a.1 x.0 a.2 x.1
   never_refused maintain l old new r a (inr (inl x)) = never_unknown l r a.0 x
   never_refused maintain l old new r a (inr (inr x)) =
@@ -291,7 +292,7 @@ module _ (ps : List Property) where
       subst (λ (c : List (List ℕ)). RefusesKind ps (length old.lbs) l (in_force ps l.name c) (kind_in (in_force ps l.name c directive.Kind)) r) chains x.3 in
       never_kind maintain l (in_force ps l.name a.1) (kind_in (in_force ps l.name a.1 directive.Kind)) old new r a.3 also
 
-  stops_one : (maintain : ℕ) (ls : List Listing) (old : Draft) (r s : LineRefusal) → StopsAtListing ps maintain ls old r → StopsAtListing ps maintain ls old s → r ≡ s
+  stops_one : (maintain : ℕ) (ls : List Listing) (old : Draft) (r s : PropsRefusal) → StopsAtListing ps maintain ls old r → StopsAtListing ps maintain ls old s → r ≡ s
   stops_one maintain [] old r s x y = absurd x
   stops_one maintain (l ∷ ls) old r s (inl x) (inl y) = refuses_one (length old.lbs) l r s x y
   stops_one maintain (l ∷ ls) old r s (inl x) (inr y) = absurd (never_refused maintain l old y.0 r y.1 x)
@@ -299,20 +300,20 @@ module _ (ps : List Property) where
   stops_one maintain (l ∷ ls) old r s (inr x) (inr y) =
       stops_one maintain ls x.0 r s x.2 (subst (λ (d : Draft). StopsAtListing ps maintain ls d s) (adds_one ps maintain l old y.0 x.0 y.1 x.1) y.2)
 
-  never_both : (maintain : ℕ) (ls : List Listing) (old new : Draft) (r : LineRefusal) → Builds ps maintain ls old new → StopsAtListing ps maintain ls old r → ⊥
+  never_both : (maintain : ℕ) (ls : List Listing) (old new : Draft) (r : PropsRefusal) → Builds ps maintain ls old new → StopsAtListing ps maintain ls old r → ⊥
   never_both maintain [] old new r a x = x
   never_both maintain (l ∷ ls) old new r a (inl x) = never_refused maintain l old a.0 r a.1 x
   never_both maintain (l ∷ ls) old new r a (inr x) =
       never_both maintain ls a.0 new r a.2 (subst (λ (d : Draft). StopsAtListing ps maintain ls d r) (adds_one ps maintain l old x.0 a.0 x.1 a.1) x.2)
 
-not_both : (a : List Property) (e : LineRefusal) (r : Result (List Property) LineRefusal) → r ≡ Ok a → r ≡ Err e → ⊥
+not_both : (a : List Property) (e : PropsRefusal) (r : Result (List Property) PropsRefusal) → r ≡ Ok a → r ≡ Err e → ⊥
 not_both a e r x y = absurd cc
 
-same_refusal : (a b : LineRefusal) (r : Result (List Property) LineRefusal) → r ≡ Err a → r ≡ Err b → a ≡ b
+same_refusal : (a b : PropsRefusal) (r : Result (List Property) PropsRefusal) → r ≡ Err a → r ≡ Err b → a ≡ b
 same_refusal a b r x y = cc
 
 -- a text has one refusal
-pub refusal_one : (text : List ℕ) (r s : LineRefusal) → IsRefusedText text r → IsRefusedText text s → r ≡ s
+pub refusal_one : (text : List ℕ) (r s : PropsRefusal) → IsRefusedText text r → IsRefusedText text s → r ≡ s
 refusal_one text r s (inl x) (inl y) = same_refusal r s (read_text true text) x y
 refusal_one text r s (inl x) (inr y) = absurd (not_both y.0 r (read_text true text) y.1 x)
 refusal_one text r s (inr x) (inl y) = absurd (not_both x.0 s (read_text true text) x.1 y)
@@ -323,7 +324,7 @@ refusal_one text r s (inr x) (inr y) =
     stops_one x.0 (maintain_of x.0) (firsts (site_list x.0)) no_workers r s x.2 also
 
 -- a text with a configuration has no refusal
-pub config_or_refusal : (text : List ℕ) (c : Config) (r : LineRefusal) → IsConfig text c → IsRefusedText text r → ⊥
+pub config_or_refusal : (text : List ℕ) (c : Config) (r : PropsRefusal) → IsConfig text c → IsRefusedText text r → ⊥
 config_or_refusal text c r a (inl x) = not_both a.properties r (read_text true text) a.read x
 config_or_refusal text c r a (inr x) =
     let ps = same_properties x.0 a.properties (read_text true text) x.1 a.read in

@@ -9,12 +9,13 @@ use Rattle.site_config.specs.declared.directive.Directive.{Directive}
 use Rattle.site_config.specs.declared.directive.Directive.TheVariants as directive
 use Rattle.site_config.specs.declared.property.Property.{Property}
 use Rattle.site_config.specs.declared.value.Value.TheVariants as value
+use Rattle.site_config.specs.declared.values.Pings.{Pings}
 use Rattle.site_config.specs.declared.values.WorkerKind.{WorkerKind}
 use Rattle.site_config.specs.Bounds.{is_at_most}
 use Rattle.site_config.specs.Directives.{worker_part}
 use Rattle.site_config.specs.Meanings.{least_in, least_of, most_in, most_of, names_directive, other_value, range_of, text_if, value_by, value_of}
 use Rattle.site_config.specs.Values as values
-use Rattle.site_config.specs.Values.{activation_of, kind_of, method_of, truth_of, within}
+use Rattle.site_config.specs.Values.{activation_of, kind_of, method_of, pings_of, truth_of, within}
 use Rattle.site_workers.specs.Settings.{as_number, number_in, number_or, said_in}
 
 no_kind : (o : Option WorkerKind) → as_number (option_map value.Kind o) ≡ None
@@ -32,6 +33,10 @@ no_activation (Some a) = refl
 no_method : (o : Option Method) → as_number (option_map value.Method o) ≡ None
 no_method None = refl
 no_method (Some m) = refl
+
+no_pings : (o : Option Pings) → as_number (option_map value.Pings o) ≡ None
+no_pings None = refl
+no_pings (Some p) = refl
 
 no_text : (good : Bool) → as_number (text_if good) ≡ None
 no_text true = refl
@@ -52,7 +57,7 @@ no_number directive.PoolSize text = refl
 no_number directive.Retries text = refl
 no_number directive.PacketSize text = refl
 no_number directive.Secret text = refl
-no_number directive.PingMode text = no_text _
+no_number directive.PingMode text = no_pings (pings_of text)
 no_number directive.RecoveryOptions text = refl
 no_number directive.FailOnStatus text = no_text _
 no_number directive.BalanceWorkers text = refl

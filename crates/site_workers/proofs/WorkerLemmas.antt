@@ -8,15 +8,16 @@ use Rattle.site_config.specs.declared.property.Property.{Property}
 use Rattle.site_config.specs.declared.directive.Directive.{Directive}
 use Rattle.site_config.specs.declared.directive.Directive.TheVariants as directive
 use Rattle.site_workers.specs.declared.draft.Draft.{Draft}
-use Rattle.site_config.specs.declared.error.PropsError.{PropsError}
-use Rattle.site_config.specs.declared.error.PropsError.TheVariants as errors
+use Rattle.site_config.specs.declared.error.WorkersError.{WorkersError}
+use Rattle.site_config.specs.declared.error.WorkersError.TheVariants as errors
 use Rattle.site_workers.specs.declared.listing.Listing as declared
 use Rattle.site_workers.specs.declared.row.Row.{Row}
 use Rattle.site_workers.specs.Building.{IsBuilding}
 use Rattle.site_workers.specs.Given.{in_force}
 use Rattle.site_workers.specs.Lists.{Listing}
 use Rattle.site_workers.specs.Listings.{as_listing, as_listings}
-use Rattle.site_config.specs.Refusals.{LineRefusal, IsRefusal}
+use Rattle.site_config.specs.declared.error.PropsRefusal.{PropsRefusal}
+use Rattle.site_config.specs.Refusals.{IsRefusal}
 use Rattle.site_workers.specs.Rows.{HasForce, property_at}
 use Rattle.site_workers.specs.Settings.{kind_in}
 use Rattle.site_workers.specs.Site.{AddsListing, AddsKind, Builds, Known, RefusesListing, StopsAtListing}
@@ -32,11 +33,11 @@ ok_anyway (Ok x) P h = h
 ok_anyway (Err e) P h = tt
 
 -- a refusal of one kind is one of a wider kind
-pub wider_refusal : (P Q : LineRefusal → Type 0) (e : PropsError) → IsRefusal P e → ((r : LineRefusal) → P r → Q r) → IsRefusal Q e
-wider_refusal P Q (errors.Refused line code) h f = f (record { line = line; code = code }) h
+pub wider_refusal : (P Q : PropsRefusal → Type 0) (e : WorkersError) → IsRefusal P e → ((r : PropsRefusal) → P r → Q r) → IsRefusal Q e
+wider_refusal P Q (errors.Refused r) h f = f r h
 wider_refusal P Q errors.NoMemory h f = tt
 
-pub wider_refused : {T : Type 0} (r : Result T PropsError) (P Q : LineRefusal → Type 0) → IfErr r (IsRefusal P) → ((x : LineRefusal) → P x → Q x) → IfErr r (IsRefusal Q)
+pub wider_refused : {T : Type 0} (r : Result T WorkersError) (P Q : PropsRefusal → Type 0) → IfErr r (IsRefusal P) → ((x : PropsRefusal) → P x → Q x) → IfErr r (IsRefusal Q)
 wider_refused (Ok x) P Q h f = tt
 wider_refused (Err e) P Q h f = wider_refusal P Q e h f
 
@@ -65,7 +66,7 @@ building_more ps maintain ls start now next i d h adds b = record {
 }
 
 -- a worker that is refused stops it, and after the last one it is built
-pub building_stops : (ps : List Property) (maintain : ℕ) (ls : List declared.Listing) (start now : Draft) (i : ℕ) (d : declared.Listing) (e : PropsError) → i < length ls → IsRefusal (RefusesListing ps (length now.lbs) (as_listing (get_or ls i d))) e → IsBuilding ps maintain (as_listings ls) start (as_listings (drop i ls)) now → IsRefusal (StopsAtListing ps maintain (as_listings ls) start) e
+pub building_stops : (ps : List Property) (maintain : ℕ) (ls : List declared.Listing) (start now : Draft) (i : ℕ) (d : declared.Listing) (e : WorkersError) → i < length ls → IsRefusal (RefusesListing ps (length now.lbs) (as_listing (get_or ls i d))) e → IsBuilding ps maintain (as_listings ls) start (as_listings (drop i ls)) now → IsRefusal (StopsAtListing ps maintain (as_listings ls) start) e
 building_stops ps maintain ls start now i d e h bad b =
     wider_refusal (RefusesListing ps (length now.lbs) (as_listing (get_or ls i d))) (StopsAtListing ps maintain (as_listings ls) start) e bad
     (λ r refuses. b.stops r (subst (λ (xs : List Listing). StopsAtListing ps maintain xs now r) (sym (left_at ls i d h)) (inl refuses)))

@@ -9,7 +9,8 @@ use Rattle.site_config.specs.declared.directive.Directive.{Directive}
 use Rattle.site_config.specs.declared.directive.Directive.TheVariants as directive
 use Rattle.site_config.specs.declared.error.PropsReason.TheVariants as reason
 use Rattle.site_config.specs.declared.property.Property.{Property}
-use Rattle.site_config.specs.Refusals.{LineRefusal, refusal}
+use Rattle.site_config.specs.declared.error.PropsRefusal.{PropsRefusal}
+use Rattle.site_config.specs.Refusals.{refusal}
 use Rattle.site_config.specs.declared.balancer.Lb.{Lb}
 use Rattle.site_config.specs.declared.endpoint.Endpoint.{Endpoint}
 use Rattle.site_workers.specs.Lists.{Listing}
@@ -26,7 +27,7 @@ pub record AreBookable (ms : List MemberConfig) (es : List Endpoint) : Type 0 wh
 abbrev pub AreTooWide : List MemberConfig → Type 0
 AreTooWide ms = 2 ^ 32 ≤ multiple_of (factors_in ms)
 
-abbrev pub RefusesWide : List MemberConfig → (line : ℕ) → LineRefusal → Type 0
+abbrev pub RefusesWide : List MemberConfig → (line : ℕ) → PropsRefusal → Type 0
 RefusesWide ms line r = AreTooWide ms × (r ≡ refusal line reason.TooWide)
 
 -- the book of an lb worker, by the directives in force
@@ -63,9 +64,9 @@ pub record Pass (ps : List Property) (count : ℕ) (ms : List Listing) : Type 0 
   pub ajp13 : Each (IsAjp13 ps) ms
 
 -- their first refusal, each after those before it
-abbrev pub RefusesMembers : List Property → (count : ℕ) → Listing → List Listing → LineRefusal → Type 0
+abbrev pub RefusesMembers : List Property → (count : ℕ) → Listing → List Listing → PropsRefusal → Type 0
 RefusesMembers ps count l ms r =
     FirstBad (Chained ps) (Breaks ps) ms r
     ⊎ ((Each (Chained ps) ms × FirstBad (Known ps) (IsUnknown ps) ms r)
-    ⊎ ((Each (Chained ps) ms × Each (Known ps) ms × (most_balancers ≤ count) × (r ≡ refusal l.line reason.BadValue))
+    ⊎ ((Each (Chained ps) ms × Each (Known ps) ms × (most_balancers ≤ count) × (r ≡ refusal l.line reason.TooManyBalancers))
     ⊎ (Each (Chained ps) ms × Each (Known ps) ms × (count < most_balancers) × FirstBad (IsAjp13 ps) (IsNoAjp13 ps) ms r)))

@@ -8,6 +8,7 @@ use Rattle.lb_model.specs.declared.member.Method.{Method}
 use Rattle.lb_model.specs.declared.member.Method.TheVariants as method
 use Rattle.lb_model.specs.declared.member.MemberConfig.{MemberConfig}
 use Rattle.site_config.specs.declared.property.Property.{Property}
+use Rattle.site_config.specs.declared.values.Pings.{Pings}
 use Rattle.site_config.specs.declared.values.WorkerKind.{WorkerKind}
 use Rattle.site_config.specs.declared.values.WorkerKind.TheVariants as kind
 use Rattle.site_config.specs.declared.directive.Directive.{Directive}
@@ -18,7 +19,7 @@ use Rattle.site_workers.specs.Given.{or_else}
 use Rattle.site_config.specs.declared.value.Value.{Value}
 use Rattle.site_config.specs.declared.value.Value.TheVariants as value
 use Rattle.site_config.specs.Meanings.{says}
-use Rattle.site_config.specs.Values.{pings, statuses_of}
+use Rattle.site_config.specs.Values.{statuses_of}
 
 -- the value of a directive in force
 abbrev pub text_in : Option Property → Option (List ℕ)
@@ -40,7 +41,7 @@ abbrev pub said_in : Directive → Option Property → Option Value
 said_in d None = None
 said_in d (Some p) = says d p
 
--- the number, the truth value, the type, the activation and the method that a value is, if it is one
+-- the number, the truth value, the type, the activation, the method and the pings that a value is, if it is that
 abbrev pub as_number : Option Value → Option ℕ
 as_number (Some (value.Number n)) = Some n
 as_number v = None
@@ -60,6 +61,10 @@ as_activation v = None
 abbrev pub as_method : Option Value → Option Method
 as_method (Some (value.Method m)) = Some m
 as_method v = None
+
+abbrev pub as_pings : Option Value → Option Pings
+as_pings (Some (value.Pings p)) = Some p
+as_pings v = None
 
 -- a number and a truth value that a directive is given, by the lines in force
 abbrev pub number_in : (Directive → Option Property) → Directive → Option ℕ
@@ -88,6 +93,12 @@ activation_in p = unwrap_or (as_activation (said_in directive.Activation p)) act
 abbrev pub method_in : Option Property → Method
 method_in p = unwrap_or (as_method (said_in directive.Method p)) method.Request
 
+abbrev pub no_pings : Pings
+no_pings = record { dialled = false; each = false; idle = false }
+
+abbrev pub pings_in : Option Property → Pings
+pings_in p = unwrap_or (as_pings (said_in directive.PingMode p)) no_pings
+
 abbrev pub statuses_in : Option Property → List (ℕ × Bool)
 statuses_in p = unwrap_or (option_and_then statuses_of (text_in p)) []
 
@@ -111,9 +122,9 @@ pub record IsEndpoint (v : Directive → Option Property) (e : Endpoint) : Type 
   pub packet : e.packet ≡ number_or v directive.PacketSize 8192
   pub secret : e.secret ≡ text_in (v directive.Secret)
   pub recovery : e.recovery ≡ number_or v directive.RecoveryOptions 0
-  pub ping_new : e.ping_new ≡ (pings 99 (text_or [] (v directive.PingMode)) || is_limited (number_in v directive.ConnectTimeout))
-  pub ping_each : e.ping_each ≡ (pings 112 (text_or [] (v directive.PingMode)) || is_limited (number_in v directive.PrepostTimeout))
-  pub ping_idle : e.ping_idle ≡ pings 105 (text_or [] (v directive.PingMode))
+  pub ping_new : e.ping_new ≡ ((pings_in (v directive.PingMode)).dialled || is_limited (number_in v directive.ConnectTimeout))
+  pub ping_each : e.ping_each ≡ ((pings_in (v directive.PingMode)).each || is_limited (number_in v directive.PrepostTimeout))
+  pub ping_idle : e.ping_idle ≡ (pings_in (v directive.PingMode)).idle
   pub fail_on : e.fail_on ≡ statuses_in (v directive.FailOnStatus)
   pub limits : AreLimits v e.limits
 

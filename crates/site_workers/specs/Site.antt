@@ -19,7 +19,8 @@ use Rattle.site_config.specs.declared.config.Status.{Status}
 use Rattle.site_config.specs.declared.config.Config.{Config}
 use Rattle.site_workers.specs.declared.draft.Draft.{Draft}
 use Rattle.site_config.specs.declared.config.Named.TheVariants as named
-use Rattle.site_config.specs.Refusals.{LineRefusal, refusal}
+use Rattle.site_config.specs.declared.error.PropsRefusal.{PropsRefusal}
+use Rattle.site_config.specs.Refusals.{refusal}
 use Rattle.site_config.specs.Directives.{directive_of, worker_part, list_key, maintain_key}
 use Rattle.site_config.specs.Meanings.{period_of}
 use Rattle.site_config.specs.Properties.{read_text}
@@ -72,7 +73,7 @@ Each fine [] = Unit {0}
 Each fine (l ∷ ls) = fine l × Each fine ls
 
 -- the first that isn't fine is refused
-abbrev pub FirstBad : (Listing → Type 0) → (Listing → LineRefusal → Type 0) → List Listing → LineRefusal → Type 0
+abbrev pub FirstBad : (Listing → Type 0) → (Listing → PropsRefusal → Type 0) → List Listing → PropsRefusal → Type 0
 FirstBad fine bad [] r = ⊥
 FirstBad fine bad (l ∷ ls) r = bad l r ⊎ (fine l × FirstBad fine bad ls r)
 
@@ -83,14 +84,14 @@ HasChain ps name = (more : List (List ℕ)) × IsChain ps name more
 abbrev pub HasKind : List Property → List ℕ → WorkerKind → Type 0
 HasKind ps name k = (more : List (List ℕ)) × IsChain ps name more × (kind_in (in_force ps name more directive.Kind) ≡ k)
 
-abbrev pub Breaks : List Property → Listing → LineRefusal → Type 0
+abbrev pub Breaks : List Property → Listing → PropsRefusal → Type 0
 Breaks ps l r = (line : ℕ) × BreaksAt ps l.name line × (r ≡ refusal line reason.BadReference)
 
-abbrev pub IsUnknown : List Property → Listing → LineRefusal → Type 0
+abbrev pub IsUnknown : List Property → Listing → PropsRefusal → Type 0
 IsUnknown ps l r = (is_given ps l.name ≡ false) × (r ≡ refusal l.line reason.UnknownWorker)
 
-abbrev pub IsNoAjp13 : List Property → Listing → LineRefusal → Type 0
-IsNoAjp13 ps l r = ((k : WorkerKind) × (k ≢ kind.Ajp13) × HasKind ps l.name k) × (r ≡ refusal l.line reason.BadValue)
+abbrev pub IsNoAjp13 : List Property → Listing → PropsRefusal → Type 0
+IsNoAjp13 ps l r = ((k : WorkerKind) × (k ≢ kind.Ajp13) × HasKind ps l.name k) × (r ≡ refusal l.line reason.NoAjp13)
 
 -- what each member of an lb worker passes: its references lead on, it has a directive, and its type is ajp13
 abbrev pub Chained : List Property → Listing → Type 0
@@ -108,7 +109,7 @@ abbrev pub IsAjp13 : List Property → Listing → Type 0
 IsAjp13 ps l = HasKind ps l.name kind.Ajp13
 
 -- the refusals of a balancer's members themselves: none, more than 64, factors that are too wide
-abbrev pub RefusesBook : List Property → ℕ → List Listing → LineRefusal → Type 0
+abbrev pub RefusesBook : List Property → ℕ → List Listing → PropsRefusal → Type 0
 RefusesBook ps line members r =
     ((length members ≡ 0) × (r ≡ refusal line reason.NoMembers))
     ⊎ (((most_members < length members) × (r ≡ refusal line reason.TooManyMembers))
@@ -120,21 +121,21 @@ line_in None = 0
 line_in (Some p) = p.line
 
 -- the refusals of an lb after `count` balancers, each after those before it
-abbrev pub RefusesLb : List Property → ℕ → Listing → (Directive → Option Property) → List Listing → LineRefusal → Type 0
+abbrev pub RefusesLb : List Property → ℕ → Listing → (Directive → Option Property) → List Listing → PropsRefusal → Type 0
 RefusesLb ps count l v members r =
     FirstBad (Chained ps) (Breaks ps) members r
     ⊎ ((Each (Chained ps) members × FirstBad (Known ps) (IsUnknown ps) members r)
-    ⊎ ((Each (Chained ps) members × Each (Known ps) members × (most_balancers ≤ count) × (r ≡ refusal l.line reason.BadValue))
+    ⊎ ((Each (Chained ps) members × Each (Known ps) members × (most_balancers ≤ count) × (r ≡ refusal l.line reason.TooManyBalancers))
     ⊎ ((Each (Chained ps) members × Each (Known ps) members × (count < most_balancers) × FirstBad (IsAjp13 ps) (IsNoAjp13 ps) members r)
     ⊎ (Each (Known ps) members × (count < most_balancers) × Each (IsAjp13 ps) members × RefusesBook ps (line_in (v directive.Kind)) (firsts members) r))))
 
-abbrev pub RefusesKind : List Property → ℕ → Listing → (Directive → Option Property) → WorkerKind → LineRefusal → Type 0
+abbrev pub RefusesKind : List Property → ℕ → Listing → (Directive → Option Property) → WorkerKind → PropsRefusal → Type 0
 RefusesKind ps count l v kind.Status r = ⊥
-RefusesKind ps count l v kind.Ajp13 r = (most_balancers ≤ count) × (r ≡ refusal l.line reason.BadValue)
+RefusesKind ps count l v kind.Ajp13 r = (most_balancers ≤ count) × (r ≡ refusal l.line reason.TooManyBalancers)
 RefusesKind ps count l v kind.Lb r = RefusesLb ps count l v (members_in ps (v directive.BalanceWorkers)) r
 
 -- the refusals of a listed worker after `count` balancers
-abbrev pub RefusesListing : List Property → ℕ → Listing → LineRefusal → Type 0
+abbrev pub RefusesListing : List Property → ℕ → Listing → PropsRefusal → Type 0
 RefusesListing ps count l r =
     Breaks ps l r
     ⊎ (IsUnknown ps l r
@@ -170,7 +171,7 @@ Builds ps maintain [] old new = new ≡ old
 Builds ps maintain (l ∷ ls) old new = (mid : Draft) × AddsListing ps maintain l old mid × Builds ps maintain ls mid new
 
 -- the listed workers, in order, up to the first that is refused
-abbrev pub StopsAtListing : List Property → ℕ → List Listing → Draft → LineRefusal → Type 0
+abbrev pub StopsAtListing : List Property → ℕ → List Listing → Draft → PropsRefusal → Type 0
 StopsAtListing ps maintain [] old r = ⊥
 StopsAtListing ps maintain (l ∷ ls) old r = RefusesListing ps (length old.lbs) l r ⊎ ((mid : Draft) × AddsListing ps maintain l old mid × StopsAtListing ps maintain ls mid r)
 
@@ -210,10 +211,10 @@ pub record IsConfig (text : List ℕ) (c : Config) : Type 0 where
   pub ignored : c.ignored ≡ ignored_of properties
 
 -- the first refusal of the workers that these lines give, each of which passes by itself
-abbrev pub RefusesWorkers : List Property → LineRefusal → Type 0
+abbrev pub RefusesWorkers : List Property → PropsRefusal → Type 0
 RefusesWorkers ps r = StopsAtListing ps (maintain_of ps) (firsts (site_list ps)) no_workers r
 
 -- the first refusal of a text: of a line by itself, or else of the workers
-abbrev pub IsRefusedText : List ℕ → LineRefusal → Type 0
+abbrev pub IsRefusedText : List ℕ → PropsRefusal → Type 0
 IsRefusedText text r =
     (read_text true text ≡ Err r) ⊎ ((ps : List Property) × (read_text true text ≡ Ok ps) × RefusesWorkers ps r)

@@ -7,8 +7,9 @@ use Rattle.site_config.specs.declared.directive.Directive.TheVariants as directi
 use Rattle.site_workers.specs.declared.row.Row.{Row}
 use Rattle.site_workers.specs.declared.row.Progress.{Progress}
 use Rattle.site_workers.specs.declared.row.Progress.TheVariants as progress
-use Rattle.site_config.specs.declared.error.PropsError.{PropsError}
-use Rattle.site_config.specs.declared.error.PropsError.TheVariants as errors
+use Rattle.site_config.specs.declared.error.WorkersError.{WorkersError}
+use Rattle.site_config.specs.declared.error.PropsReason.TheVariants as reason
+use Rattle.site_config.specs.Refusals.{IsRefusal, refusal}
 use Rattle.site_workers.specs.Numbers.{number_of}
 use Rattle.site_workers.specs.Given.{last_given, is_given, is_among, target_at, target_in, Walks, BreaksAt, or_else}
 use Rattle.site_workers.specs.Rows.{place_at, property_at, HasLines, HasForce, AreRows}
@@ -94,9 +95,8 @@ pub record IsWay (ps : List Property) (start : List ℕ) (names : List (List ℕ
   pub ends : EndsWell names rows next
 
 -- a walk's refusal
-abbrev pub IsBrokenWalk : List Property → List ℕ → PropsError → Type 0
-IsBrokenWalk ps start (errors.Refused line code) = BreaksAt ps start line × (code ≡ 8)
-IsBrokenWalk ps start errors.NoMemory = Unit {0}
+abbrev pub IsBrokenWalk : List Property → List ℕ → WorkersError → Type 0
+IsBrokenWalk ps start e = IsRefusal (λ r. (line : ℕ) × BreaksAt ps start line × (r ≡ refusal line reason.BadReference)) e
 
 -- the row of the worker that this row's reference names
 abbrev pub row_of_target : List Property → List (List ℕ) → List Row → Row → Option Row

@@ -18,7 +18,7 @@ use crate::row::{Row, picked};
 use crate::settings::{filled_or, method, number_or, text, truth_or};
 use jk_io::{Bytes, ListOf, NoMemory};
 use lb_model::{ConfigError, LbConfig, MemberList, Method};
-use site_config::{Directive, Endpoint, Lb, PropertyLine, PropsError, PropsReason, refused};
+use site_config::{Directive, Endpoint, Lb, PropertyLine, PropsReason, WorkersError, refused};
 use std::alloc::Global;
 
 /// The line of the worker's type; 0 where none gives it.
@@ -81,12 +81,12 @@ pub(crate) fn direct<'t>(
     given: &Given<'_, 't>,
     rows: &mut Vec<Row>,
     listing: &Listing<'t>,
-) -> Result<Lb, PropsError>
+) -> Result<Lb, WorkersError>
     requires rows { AreAtRest given.now rows.old.items }
     requires traced { IsTraced (lines_in given.now) (as_listing listing.now) }
     ensures rows { OnOk result (AreAtRest given.now rows.new.items) }
     ensures lb { IfOk result (IsDirect (lines_in given.now) given.now.maintain (as_listing listing.now)) }
-    ensures memory { IfErr result (λ e. e ≡ PropsError.NoMemory) }
+    ensures memory { IfErr result (λ e. e ≡ WorkersError.NoMemory) }
 {
     let alone = [*listing];
     let members = members_of(alloc, given, rows, &alone)?;
@@ -139,7 +139,7 @@ fn lb_with<'t>(
     row: &Row,
     name: &[u8],
     made: Members,
-) -> Result<Lb, PropsError>
+) -> Result<Lb, WorkersError>
     requires { AreBookable made.configs.items made.ends.items }
     ensures lb { IfOk result (IsLbOf (property_at (lines_in given.now) row.now) given.now.maintain
         name.now made.configs.items made.ends.items) }
@@ -166,7 +166,7 @@ fn lb_of<'t>(
     row: &Row,
     listing: &Listing<'t>,
     members: &[Listing<'t>],
-) -> Result<Lb, PropsError>
+) -> Result<Lb, WorkersError>
     requires rows { AreAtRest given.now rows.old.items }
     requires traced { Each (IsTraced (lines_in given.now)) (as_listings members.now) }
     requires some { 1 ≤ length members.now }
@@ -189,7 +189,7 @@ pub(crate) fn balanced<'t>(
     row: &Row,
     listing: &Listing<'t>,
     members: &[Listing<'t>],
-) -> Result<Lb, PropsError>
+) -> Result<Lb, WorkersError>
     requires rows { AreAtRest given.now rows.old.items }
     requires traced { Each (IsTraced (lines_in given.now)) (as_listings members.now) }
     ensures rows { OnOk result (AreAtRest given.now rows.new.items) }

@@ -1,6 +1,6 @@
 //! A law of the site's definition, in words of its own.
 ghost use Rattle.std.specs.Prelude.{◌≡◌, ℕ, List};
-ghost use Rattle.site_config.specs.Refusals.{LineRefusal};
+ghost use Rattle.site_config.specs.declared.error.PropsRefusal.{PropsRefusal};
 ghost use Rattle.site_config.specs.declared.config.Config.{Config};
 ghost use Rattle.site_workers.specs.Site.{IsConfig, IsRefusedText};
 
@@ -8,6 +8,6 @@ ghost use Rattle.site_workers.specs.Site.{IsConfig, IsRefusedText};
 /// never both.
 pub fn a_text_has_one_answer()
     ensures configuration { (text : List ℕ) (a b : Config) → IsConfig text a → IsConfig text b → a ≡ b }
-    ensures refusal { (text : List ℕ) (r s : LineRefusal) → IsRefusedText text r → IsRefusedText text s → r ≡ s }
-    ensures never_both { (text : List ℕ) (c : Config) (r : LineRefusal) → IsConfig text c → IsRefusedText text r → ⊥ }
+    ensures refusal { (text : List ℕ) (r s : PropsRefusal) → IsRefusedText text r → IsRefusedText text s → r ≡ s }
+    ensures never_both { (text : List ℕ) (c : Config) (r : PropsRefusal) → IsConfig text c → IsRefusedText text r → ⊥ }
 {}

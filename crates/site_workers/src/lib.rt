@@ -4,7 +4,7 @@
 //! Own rules: the ranges, the numbers of the refusals and their order, how lists are spelled (docs/FORMATS.md).
 //! Contract: `read_workers`, clauses `ok` and `refused`; `configure`, the same of lines that were read. Read first: specs/Site.antt,
 //! then specs/Given.antt, specs/Settings.antt, site_config's specs/Properties.antt.
-//! Errors: `PropsError`.
+//! Errors: `WorkersError`, with the reason; `PropsError`, with its number.
 #![tactic(auto)]
 
 mod books;

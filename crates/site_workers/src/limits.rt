@@ -1,5 +1,4 @@
 //! A member's time limits.
-ghost use Rattle.std.specs.Prelude.{◌≡◌};
 ghost use Rattle.site_config.specs.Entries.{as_properties};
 ghost use Rattle.site_workers.specs.Rows.{property_at};
 ghost use Rattle.site_workers.specs.Settings.{AreLimits};

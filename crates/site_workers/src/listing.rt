@@ -1,5 +1,5 @@
 //! The lists of workers: `worker.list` and `balance_workers`.
-ghost use Rattle.std.specs.Prelude.{◌≡◌, ◌++◌, map, IfOk, OnOk};
+ghost use Rattle.std.specs.Prelude.{◌≡◌, ◌++◌, IfOk, OnOk};
 ghost use Rattle.site_config.specs.Entries.{as_property, as_properties};
 ghost use Rattle.site_workers.specs.Lists.{firsts, listings_of, joined, is_list_line, site_list};
 ghost use Rattle.site_workers.specs.Listings.{as_listings};

@@ -3,15 +3,15 @@ ghost use Rattle.std.specs.Prelude.{◌≡◌, ◌<◌, ◌+◌, ◌||◌, map, 
 ghost use Rattle.std.specs.Option.{option_map};
 ghost use Rattle.site_config.specs.Entries.{as_properties};
 ghost use Rattle.site_workers.specs.Rows.{property_at};
-ghost use Rattle.site_workers.specs.Settings.{IsEndpoint, IsMember, is_limited, redirect_in, other_at, shared, statuses_in, text_in};
+ghost use Rattle.site_workers.specs.Settings.{IsEndpoint, IsMember, is_limited, redirect_in, other_at, shared, statuses_in};
 ghost use Rattle.lb_model.specs.declared.config.TheConstants.{MAX_MEMBERS};
 
 use crate::limits::limits_of;
 use crate::row::Row;
-use crate::settings::{activation, is_limited, number_or, text, text_or};
+use crate::settings::{activation, is_limited, number_or, pings, text, text_or};
 use jk_io::{Bytes, ListOf, NoMemory};
 use lb_model::{FailList, MemberConfig};
-use site_config::{Directive, Endpoint, PropertyLine, pings, statuses_of};
+use site_config::{Directive, Endpoint, PropertyLine, statuses_of};
 use std::alloc::Global;
 
 fn copied(alloc: Global, text: Option<&[u8]>) -> Result<Option<Bytes>, NoMemory>
@@ -47,17 +47,16 @@ pub(crate) fn endpoint_of<'t>(
     let localhost: &'t [u8] = b"localhost";
     let host = text_or(entries, row, Directive::Host, localhost);
     let secret = text(entries, row, Directive::Secret);
-    let no_pings: &'t [u8] = b"";
-    let ping = text_or(entries, row, Directive::PingMode, no_pings);
+    let pings = pings(entries, row);
     let limits = limits_of(entries, row);
     Ok(Endpoint {
         port: number_or(entries, row, Directive::Port, 8009) as u16,
         retries: number_or(entries, row, Directive::Retries, 2) as u32,
         packet: number_or(entries, row, Directive::PacketSize, 8192) as u32,
         recovery: number_or(entries, row, Directive::RecoveryOptions, 0) as u8,
-        ping_new: pings(b'c', ping) || is_limited(limits.connect_timeout),
-        ping_each: pings(b'p', ping) || is_limited(limits.prepost_timeout),
-        ping_idle: pings(b'i', ping),
+        ping_new: pings.dialled || is_limited(limits.connect_timeout),
+        ping_each: pings.each || is_limited(limits.prepost_timeout),
+        ping_idle: pings.idle,
         host: Bytes::from_slice(alloc, host)?,
         secret: copied(alloc, secret)?,
         fail_on: fail_list(alloc, entries, row)?,

@@ -1,10 +1,9 @@
 //! The members of an lb worker: what is refused of them, and what is made of them.
-ghost use Rattle.std.specs.Prelude.{◌≡◌, ◌≤◌, ◌<◌, ◌+◌, [], length, map, IfOk, IfErr, OnOk};
-ghost use Rattle.std.specs.Option.{option_map};
+ghost use Rattle.std.specs.Prelude.{◌≡◌, ◌≤◌, ◌<◌, ◌+◌, length, map, IfOk, IfErr, OnOk};
 ghost use Rattle.lb_model.specs.Ranges.{AreInRange};
 ghost use Rattle.site_workers.specs.Built.{HaveForce, AreBuilt, routes_at};
 ghost use Rattle.site_config.specs.Entries.{as_properties};
-ghost use Rattle.site_workers.specs.Listings.{as_listing, as_listings};
+ghost use Rattle.site_workers.specs.Listings.{as_listings};
 ghost use Rattle.site_config.specs.Refusals.{IsRefusal};
 ghost use Rattle.site_workers.specs.Site.{AreMembers, Breaks, Chained, Each, FirstBad, IsAjp13, IsNoAjp13, IsUnknown, Known, IsTraced, routes_of};
 ghost use Rattle.site_workers.specs.Tables.{AreAtRest, lines_in};
@@ -18,7 +17,7 @@ use crate::settings::text_or;
 use crate::site::{check_ajp13, check_known, check_reference, force_of};
 use jk_io::NoMemory;
 use lb_model::MemberConfig;
-use site_config::{Directive, Endpoint, PropertyLine, PropsError};
+use site_config::{Directive, Endpoint, PropertyLine, WorkersError};
 use std::alloc::Global;
 
 /// Whether the references of each member lead on.
@@ -27,7 +26,7 @@ pub(crate) fn check_references<'t>(
     given: &Given<'_, 't>,
     rows: &mut Vec<Row>,
     members: &[Listing<'t>],
-) -> Result<(), PropsError>
+) -> Result<(), WorkersError>
     requires rows { AreAtRest given.now rows.old.items }
     ensures rows { OnOk result (AreAtRest given.now rows.new.items) }
     ensures ok { OnOk result (Each (Chained (lines_in given.now)) (as_listings members.now)) }
@@ -44,7 +43,7 @@ pub(crate) fn check_references<'t>(
 pub(crate) fn check_members_known(
     given: &Given<'_, '_>,
     members: &[Listing<'_>],
-) -> Result<(), PropsError>
+) -> Result<(), WorkersError>
     ensures ok { OnOk result (Each (Known (lines_in given.now)) (as_listings members.now)) }
     ensures unknown { IfErr result (IsRefusal (FirstBad (Known (lines_in given.now))
         (IsUnknown (lines_in given.now)) (as_listings members.now))) }
@@ -61,7 +60,7 @@ pub(crate) fn check_types<'t>(
     given: &Given<'_, 't>,
     rows: &mut Vec<Row>,
     members: &[Listing<'t>],
-) -> Result<(), PropsError>
+) -> Result<(), WorkersError>
     requires rows { AreAtRest given.now rows.old.items }
     requires traced { Each (IsTraced (lines_in given.now)) (as_listings members.now) }
     ensures rows { OnOk result (AreAtRest given.now rows.new.items) }
@@ -81,12 +80,12 @@ fn rows_of<'t>(
     given: &Given<'_, 't>,
     rows: &mut Vec<Row>,
     members: &[Listing<'t>],
-) -> Result<Vec<Row>, PropsError>
+) -> Result<Vec<Row>, WorkersError>
     requires rows { AreAtRest given.now rows.old.items }
     requires traced { Each (IsTraced (lines_in given.now)) (as_listings members.now) }
     ensures rows { OnOk result (AreAtRest given.now rows.new.items) }
     ensures force { IfOk result (λ v. HaveForce (lines_in given.now) (as_listings members.now) v.items) }
-    ensures memory { IfErr result (λ e. e ≡ PropsError.NoMemory) }
+    ensures memory { IfErr result (λ e. e ≡ WorkersError.NoMemory) }
 {
     let mut out = Vec::new(alloc);
     for listing in members {
@@ -151,7 +150,7 @@ pub(crate) fn members_of<'t>(
     given: &Given<'_, 't>,
     rows: &mut Vec<Row>,
     members: &[Listing<'t>],
-) -> Result<Members, PropsError>
+) -> Result<Members, WorkersError>
     requires rows { AreAtRest given.now rows.old.items }
     requires traced { Each (IsTraced (lines_in given.now)) (as_listings members.now) }
     requires few { length members.now ≤ MAX_MEMBERS }
@@ -160,7 +159,7 @@ pub(crate) fn members_of<'t>(
         (as_listings members.now) b.configs.items b.ends.items) }
     ensures ranges { IfOk result (λ b. AreInRange b.configs.items) }
     ensures count { IfOk result (λ b. (length b.configs.items ≡ length members.now) × (length b.ends.items ≡ length members.now)) }
-    ensures memory { IfErr result (λ e. e ≡ PropsError.NoMemory) }
+    ensures memory { IfErr result (λ e. e ≡ WorkersError.NoMemory) }
 {
     let rows_in_force = rows_of(alloc, given, rows, members)?;
     let own = rows_in_force.as_slice();

@@ -1,5 +1,5 @@
 //! The workers' names, each with its number.
-ghost use Rattle.std.specs.Prelude.{◌≡◌, ◌<◌, ◌^◌, ℕ, List, [], ◌∷◌, ◌++◌, length, map, IfOk, OnErr, slice_get, vec_len};
+ghost use Rattle.std.specs.Prelude.{◌≡◌, ◌<◌, ℕ, List, [], ◌∷◌, ◌++◌, length, map, IfOk};
 ghost use Rattle.site_workers.specs.Numbers.{number_of};
 
 use jk_io::NoMemory;

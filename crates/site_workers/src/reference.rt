@@ -1,9 +1,8 @@
 //! References: a worker's directives hold for another that has none of its own.
-ghost use Rattle.std.specs.Prelude.{◌≡◌, ◌<◌, ◌≤◌, ℕ, List, length, map, reverse, IfOk, IfErr, OnOk, true, false, if◌then◌else◌, slice_get, slice_index_or, Some, None, []};
+ghost use Rattle.std.specs.Prelude.{◌≡◌, ◌<◌, ℕ, length, map, reverse, IfOk, IfErr, OnOk, true, if◌then◌else◌, slice_index_or, Some, None};
 ghost use Rattle.std.specs.Option.{option_map};
 ghost use Rattle.site_config.specs.Entries.{as_property, as_properties};
 ghost use Rattle.site_workers.specs.Given.{is_given, or_else, target_name};
-ghost use Rattle.site_workers.specs.Numbers.{number_of};
 ghost use Rattle.site_workers.specs.Rows.{adjusted};
 ghost use Rattle.site_workers.specs.Tables.{AreAtRest, lines_in};
 ghost use Rattle.site_workers.specs.Ways.{IsWay, IsBrokenWalk, IsSettled, Inherits, is_open, passed_row, row_of_target};
@@ -12,7 +11,7 @@ ghost use Rattle.site_config.specs.declared.directive.TheConstants.{DIRECTIVE_CO
 use crate::given::Given;
 use crate::name_table::NameTable;
 use crate::row::{Progress, Row, picked};
-use site_config::{Directive, PropertyLine, PropsError, PropsReason, behind_worker, refused};
+use site_config::{Directive, PropertyLine, PropsReason, WorkersError, behind_worker, refused};
 use std::alloc::Global;
 
 /// The worker that a reference names.
@@ -108,7 +107,7 @@ fn walk<'t>(
     given: &Given<'_, 't>,
     rows: &mut Vec<Row>,
     start: &'t [u8],
-) -> Result<Vec<&'t [u8]>, PropsError>
+) -> Result<Vec<&'t [u8]>, WorkersError>
     requires given { is_given (lines_in given.now) start.now ≡ true }
     requires rows { AreAtRest given.now rows.old.items }
     ensures way { IfOk result (λ path. IsWay (lines_in given.now) start.now given.now.names.now rows.new.items
@@ -141,7 +140,7 @@ pub(crate) fn resolve<'t>(
     given: &Given<'_, 't>,
     rows: &mut Vec<Row>,
     start: &'t [u8],
-) -> Result<(), PropsError>
+) -> Result<(), WorkersError>
     requires given { is_given (lines_in given.now) start.now ≡ true }
     requires rows { AreAtRest given.now rows.old.items }
     ensures rows { OnOk result (AreAtRest given.now rows.new.items) }

@@ -1,7 +1,6 @@
 //! The row of a worker: the directives that the lines give it.
-ghost use Rattle.std.specs.Prelude.{◌≡◌, slice_index_or, slice_set, length, None};
+ghost use Rattle.std.specs.Prelude.{◌≡◌, length, None};
 ghost use Rattle.std.specs.Option.{option_map};
-ghost use Rattle.site_config.specs.Directives.{slot_of};
 ghost use Rattle.site_config.specs.Entries.{as_property, as_properties};
 ghost use Rattle.site_workers.specs.Ways.{is_whole, passed_row};
 ghost use Rattle.site_workers.specs.Rows.{place_at, picked, property_at, row_with};

@@ -1,15 +1,15 @@
 //! The values that are in force for a worker.
-ghost use Rattle.std.specs.Prelude.{◌≡◌, ◌≤◌, ◌<◌, length, option_copied, nat_lt, Some, true};
+ghost use Rattle.std.specs.Prelude.{◌≡◌, ◌≤◌, ◌<◌, length, Some, true};
 ghost use Rattle.std.specs.Option.{option_map};
 ghost use Rattle.site_config.specs.Entries.{as_properties};
 ghost use Rattle.site_workers.specs.Rows.{property_at};
-ghost use Rattle.site_workers.specs.Settings.{activation_in, filled, filled_or, is_closed, is_limited, kind_in, method_in, number_in, number_or, said_in, text_in, text_or, truth_in, truth_or};
+ghost use Rattle.site_workers.specs.Settings.{activation_in, filled, filled_or, is_closed, is_limited, kind_in, method_in, number_in, number_or, pings_in, said_in, text_in, text_or, truth_in, truth_or};
 ghost use Rattle.site_config.specs.Bounds.{is_at_most};
 ghost use Rattle.site_config.specs.Meanings.{least_of, most_of};
 
 use crate::row::{Row, picked};
 use lb_model::{Activation, Method};
-use site_config::{Directive, PropertyLine, Value, WorkerKind};
+use site_config::{Directive, Pings, PropertyLine, Value, WorkerKind};
 
 /// The value of a directive in force.
 pub(crate) fn text<'t>(
@@ -160,5 +160,19 @@ pub(crate) fn method(entries: &[PropertyLine<'_>], row: &Row) -> Method
     match said(entries, row, Directive::Method) {
         Some(Value::Method(method)) => method,
         _ => Method::Request,
+    }
+}
+
+/// When the worker is pinged.
+pub(crate) fn pings(entries: &[PropertyLine<'_>], row: &Row) -> Pings
+    ensures { result ≡ pings_in (property_at (as_properties entries.now) row.now Directive.PingMode) }
+{
+    match said(entries, row, Directive::PingMode) {
+        Some(Value::Pings(pings)) => pings,
+        _ => Pings {
+            dialled: false,
+            each: false,
+            idle: false,
+        },
     }
 }

@@ -1,12 +1,12 @@
 //! The lines of a text, its workers' names, and the rows that are in force.
-ghost use Rattle.std.specs.Prelude.{◌≡◌, ◌<◌, ◌^◌, ℕ, [], Some, slice_get, length, true, IfOk, IfErr, OnOk, OnErr};
+ghost use Rattle.std.specs.Prelude.{◌≡◌, ◌<◌, ℕ, Some, slice_get, true, IfOk, IfErr, OnOk};
 ghost use Rattle.site_workers.specs.Given.{is_given};
 ghost use Rattle.site_workers.specs.Lists.{Listing};
-ghost use Rattle.site_workers.specs.Listings.{as_listing, as_listings};
+ghost use Rattle.site_workers.specs.Listings.{as_listing};
 ghost use Rattle.site_workers.specs.Numbers.{number_of};
 ghost use Rattle.site_config.specs.Refusals.{IsRefusal};
 ghost use Rattle.site_workers.specs.Rows.{HasForce};
-ghost use Rattle.site_workers.specs.Site.{Breaks, Chained, Each, FirstBad, IsAjp13, IsNoAjp13, IsUnknown, Known, IsTraced};
+ghost use Rattle.site_workers.specs.Site.{Breaks, Chained, IsAjp13, IsNoAjp13, IsUnknown, Known, IsTraced};
 ghost use Rattle.site_workers.specs.Tables.{AreAtRest, lines_in};
 ghost use Rattle.site_workers.specs.Ways.{IsBrokenWalk, IsSettled};
 
@@ -16,7 +16,7 @@ use crate::name_table::NameTable;
 use crate::reference::resolve;
 use crate::row::Row;
 use crate::settings::kind;
-use site_config::{PropsError, PropsReason, WorkerKind, refused};
+use site_config::{PropsReason, WorkerKind, WorkersError, refused};
 use std::alloc::Global;
 
 /// The row of a worker whose row is whole.
@@ -34,7 +34,7 @@ pub(crate) fn force_of<'t>(
     given: &Given<'_, 't>,
     rows: &mut Vec<Row>,
     name: &'t [u8],
-) -> Result<Row, PropsError>
+) -> Result<Row, WorkersError>
     requires given { is_given (lines_in given.now) name.now ≡ true }
     requires rows { AreAtRest given.now rows.old.items }
     ensures rows { OnOk result (AreAtRest given.now rows.new.items) }
@@ -51,7 +51,7 @@ pub(crate) fn check_reference<'t>(
     given: &Given<'_, 't>,
     rows: &mut Vec<Row>,
     listing: &Listing<'t>,
-) -> Result<(), PropsError>
+) -> Result<(), WorkersError>
     requires rows { AreAtRest given.now rows.old.items }
     ensures rows { OnOk result (AreAtRest given.now rows.new.items) }
     ensures ok { OnOk result (Chained (lines_in given.now) (as_listing listing.now)) }
@@ -67,7 +67,7 @@ pub(crate) fn check_reference<'t>(
 }
 
 /// Whether a listed worker has a directive.
-pub(crate) fn check_known(given: &Given<'_, '_>, listing: &Listing<'_>) -> Result<(), PropsError>
+pub(crate) fn check_known(given: &Given<'_, '_>, listing: &Listing<'_>) -> Result<(), WorkersError>
     ensures ok { OnOk result (Known (lines_in given.now) (as_listing listing.now)) }
     ensures unknown { IfErr result (IsRefusal (IsUnknown (lines_in given.now) (as_listing listing.now))) }
 {
@@ -83,7 +83,7 @@ pub(crate) fn check_ajp13<'t>(
     given: &Given<'_, 't>,
     rows: &mut Vec<Row>,
     listing: &Listing<'t>,
-) -> Result<(), PropsError>
+) -> Result<(), WorkersError>
     requires rows { AreAtRest given.now rows.old.items }
     requires traced { IsTraced (lines_in given.now) (as_listing listing.now) }
     ensures rows { OnOk result (AreAtRest given.now rows.new.items) }
@@ -93,7 +93,7 @@ pub(crate) fn check_ajp13<'t>(
     let row = force_of(alloc, given, rows, listing.name)?;
     match kind(given.entries, &row) {
         WorkerKind::Ajp13 => Ok(()),
-        WorkerKind::Lb => Err(refused(listing.line, PropsReason::BadValue)),
-        WorkerKind::Status => Err(refused(listing.line, PropsReason::BadValue)),
+        WorkerKind::Lb => Err(refused(listing.line, PropsReason::NoAjp13)),
+        WorkerKind::Status => Err(refused(listing.line, PropsReason::NoAjp13)),
     }
 }

@@ -1,8 +1,7 @@
 //! The workers that have directives, each with the lines that give them.
-ghost use Rattle.std.specs.Prelude.{◌≡◌, ◌<◌, ◌^◌, ℕ, List, length, IfOk, OnOk, is_some, take, slice_set, vec_len};
+ghost use Rattle.std.specs.Prelude.{◌≡◌, ◌<◌, ◌^◌, length, IfOk, OnOk, vec_len};
 ghost use Rattle.site_config.specs.Directives.{worker_part};
 ghost use Rattle.site_config.specs.Entries.{as_property, as_properties};
-ghost use Rattle.site_workers.specs.Numbers.{number_of};
 ghost use Rattle.site_workers.specs.Table.{with_name, names_with, IsNameOfGiven};
 ghost use Rattle.site_workers.specs.Rows.{HasOwn, AreRows, rows_after};
 

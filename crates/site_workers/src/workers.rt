@@ -1,15 +1,13 @@
 //! The second pass: the workers of `worker.list`, in order.
 ghost use Rattle.std.specs.Prelude.{◌≡◌, ◌≤◌, ◌<◌, ◌^◌, ℕ, List, Ok, true, length, IfOk, IfErr, OnOk};
 ghost use Rattle.jk_io.specs.declared.whole_input.TheConstants.{MAX_INPUT_BYTES};
-ghost use Rattle.site_config.specs.Directives.{slot_of};
 ghost use Rattle.site_config.specs.Entries.{as_properties};
 ghost use Rattle.site_config.specs.Properties.{read_text};
 ghost use Rattle.site_workers.specs.Books.{Pass, RefusesMembers};
 ghost use Rattle.site_workers.specs.Listings.{as_listing, as_listings};
 ghost use Rattle.site_workers.specs.Lists.{firsts, site_list};
-ghost use Rattle.site_config.specs.Refusals.{IsRefusal};
-ghost use Rattle.site_workers.specs.Rows.{HasForce, property_at};
-ghost use Rattle.site_workers.specs.Settings.{kind_in};
+ghost use Rattle.site_config.specs.Refusals.{IsNumbered, IsRefusal};
+ghost use Rattle.site_workers.specs.Rows.{property_at};
 ghost use Rattle.site_workers.specs.Site.{AddsListing, AddsKind, Builds, IsConfig, IsRefusedText, IsTraced, RefusesListing, RefusesKind, RefusesWorkers, StopsAtListing, draft_of, maintain_of, no_workers, with_lb};
 ghost use Rattle.site_workers.specs.Tables.{AreAtRest, lines_in};
 
@@ -29,7 +27,7 @@ use jk_io::{Bytes, NoMemory};
 use lb_model::MAX_BALANCERS;
 use site_config::{
     Config, Directive, IgnoredList, Lb, PropertyLine, PropsError, PropsReason, Status, WorkerKind,
-    read_entries, refused,
+    WorkersError, read_entries, refused,
 };
 use std::alloc::Global;
 
@@ -48,7 +46,7 @@ fn check_members<'t>(
     count: usize,
     listing: &Listing<'t>,
     members: &[Listing<'t>],
-) -> Result<(), PropsError>
+) -> Result<(), WorkersError>
     requires rows { AreAtRest given.now rows.old.items }
     ensures rows { OnOk result (AreAtRest given.now rows.new.items) }
     ensures pass { OnOk result (Pass (lines_in given.now) count (as_listings members.now)) }
@@ -58,7 +56,7 @@ fn check_members<'t>(
     check_references(alloc, given, rows, members)?;
     check_members_known(given, members)?;
     if count >= MAX_BALANCERS {
-        return Err(refused(listing.line, PropsReason::BadValue));
+        return Err(refused(listing.line, PropsReason::TooManyBalancers));
     }
     check_types(alloc, given, rows, members)
 }
@@ -71,7 +69,7 @@ fn add_lb<'t>(
     draft: &mut Draft,
     row: &Row,
     listing: &Listing<'t>,
-) -> Result<(), PropsError>
+) -> Result<(), WorkersError>
     requires rows { AreAtRest given.now rows.old.items }
     ensures rows { OnOk result (AreAtRest given.now rows.new.items) }
     ensures ok { OnOk result (AddsKind (lines_in given.now) given.now.maintain (as_listing listing.now)
@@ -94,7 +92,7 @@ fn add_direct<'t>(
     draft: &mut Draft,
     row: &Row,
     listing: &Listing<'t>,
-) -> Result<(), PropsError>
+) -> Result<(), WorkersError>
     requires rows { AreAtRest given.now rows.old.items }
     requires traced { IsTraced (lines_in given.now) (as_listing listing.now) }
     ensures rows { OnOk result (AreAtRest given.now rows.new.items) }
@@ -104,7 +102,7 @@ fn add_direct<'t>(
         (as_listing listing.now) (property_at (lines_in given.now) row.now) WorkerKind.Ajp13)) }
 {
     if draft.lbs.len() >= MAX_BALANCERS {
-        return Err(refused(listing.line, PropsReason::BadValue));
+        return Err(refused(listing.line, PropsReason::TooManyBalancers));
     }
     let lb = direct(alloc, given, rows, listing)?;
     put_lb(alloc, draft, listing.name, lb)?;
@@ -138,7 +136,7 @@ fn add_worker<'t>(
     rows: &mut Vec<Row>,
     draft: &mut Draft,
     listing: &Listing<'t>,
-) -> Result<(), PropsError>
+) -> Result<(), WorkersError>
     requires rows { AreAtRest given.now rows.old.items }
     ensures rows { OnOk result (AreAtRest given.now rows.new.items) }
     ensures ok { OnOk result (AddsListing (lines_in given.now) given.now.maintain (as_listing listing.now) draft.old draft.new) }
@@ -159,7 +157,7 @@ fn add_workers<'t>(
     given: &Given<'_, 't>,
     rows: &mut Vec<Row>,
     listings: &[Listing<'t>],
-) -> Result<Draft, PropsError>
+) -> Result<Draft, WorkersError>
     requires rows { AreAtRest given.now rows.old.items }
     ensures ok { IfOk result (Builds (lines_in given.now) given.now.maintain (as_listings listings.now) no_workers) }
     ensures refused { IfErr result (IsRefusal (StopsAtListing (lines_in given.now) given.now.maintain (as_listings listings.now) no_workers)) }
@@ -172,7 +170,7 @@ fn add_workers<'t>(
 }
 
 /// The workers of `worker.list`, each name once, made into balancers and status workers.
-fn drafted(alloc: Global, given: &Given<'_, '_>) -> Result<Draft, PropsError>
+fn drafted(alloc: Global, given: &Given<'_, '_>) -> Result<Draft, WorkersError>
     ensures ok { IfOk result (Builds (lines_in given.now) given.now.maintain
         (firsts (site_list (lines_in given.now))) no_workers) }
     ensures refused { IfErr result (IsRefusal (StopsAtListing (lines_in given.now) given.now.maintain
@@ -188,7 +186,7 @@ fn config_of(
     alloc: Global,
     given: &Given<'_, '_>,
     ignored: IgnoredList,
-) -> Result<Config, PropsError>
+) -> Result<Config, WorkersError>
     ensures ok { IfOk result (λ c. Builds (lines_in given.now) given.now.maintain
         (firsts (site_list (lines_in given.now))) no_workers (draft_of c)) }
     ensures maintain { IfOk result (λ c. c.maintain ≡ given.now.maintain) }
@@ -215,7 +213,7 @@ fn workers_of(
     alloc: Global,
     entries: &[PropertyLine<'_>],
     ignored: IgnoredList,
-) -> Result<Config, PropsError>
+) -> Result<Config, WorkersError>
     requires { length entries.now < 2 ^ 32 }
     ensures ok { IfOk result (λ c. Builds (as_properties entries.now) (maintain_of (as_properties entries.now))
         (firsts (site_list (as_properties entries.now))) no_workers (draft_of c)) }
@@ -238,7 +236,7 @@ fn workers_of(
 
 /// The configuration of a workers.properties with these lines, each of which passes by itself, or the first refusal of its
 /// workers: the second pass.
-pub fn configure(alloc: Global, entries: &[PropertyLine<'_>]) -> Result<Config, PropsError>
+pub fn configure(alloc: Global, entries: &[PropertyLine<'_>]) -> Result<Config, WorkersError>
     requires few { length entries.now < 2 ^ 32 }
     ensures ok { (text : List ℕ) → read_text true text ≡ Ok (as_properties entries.now) → IfOk result (IsConfig text) }
     ensures refused { IfErr result (IsRefusal (RefusesWorkers (as_properties entries.now))) }
@@ -249,11 +247,20 @@ pub fn configure(alloc: Global, entries: &[PropertyLine<'_>]) -> Result<Config, 
 
 /// The configuration that a workers.properties gives, or its first refusal: the first pass goes over the lines, the
 /// second over the workers of `worker.list`.
-pub fn read_workers(alloc: Global, text: &[u8]) -> Result<Config, PropsError>
+fn workers_in(alloc: Global, text: &[u8]) -> Result<Config, WorkersError>
     requires { length text.now ≤ MAX_INPUT_BYTES }
     ensures ok { IfOk result (IsConfig text.now) }
     ensures refused { IfErr result (IsRefusal (IsRefusedText text.now)) }
 {
     let entries = read_entries(alloc, true, text)?;
     configure(alloc, entries.as_slice())
+}
+
+/// The same, with the number of the refusal.
+pub fn read_workers(alloc: Global, text: &[u8]) -> Result<Config, PropsError>
+    requires { length text.now ≤ MAX_INPUT_BYTES }
+    ensures ok { IfOk result (IsConfig text.now) }
+    ensures refused { IfErr result (IsNumbered (IsRefusedText text.now)) }
+{
+    Ok(workers_in(alloc, text)?)
 }

@@ -7,7 +7,9 @@ ghost use Rattle.plain_commands.specs.Dry.{Logs, ReportsLog};
 use crate::session::report::{Wire, with_reach};
 use jk_io::{Bytes, NoMemory};
 use request_log::{Format, log_text};
-use site_reports::{AcceptedSite, Report, SiteFound, judge_site, refusal_text};
+use site_reports::{
+    AcceptedSite, Report, SiteFound, judge_site, map_refusal_text, workers_refusal_text,
+};
 use std::alloc::Global;
 use std::marker::Brand;
 
@@ -36,8 +38,8 @@ fn log_over(
     match found {
         SiteFound::Workers(_) => Ok(Bytes::new(alloc)),
         SiteFound::Site(site) => of_site(alloc, site, wire, format),
-        SiteFound::WorkersRefused(r) => refusal_text(alloc, b"workers", r.line, r.code),
-        SiteFound::MapRefused(r) => refusal_text(alloc, b"map", r.line, r.code),
+        SiteFound::WorkersRefused(r) => workers_refusal_text(alloc, r.refusal),
+        SiteFound::MapRefused(r) => map_refusal_text(alloc, r.refusal),
     }
 }
 

@@ -15,7 +15,9 @@ use http_front::Inbox;
 use jk_io::{Bytes, MemLink, NoMemory, NumberList, Peer, StepClock};
 use lb_book::PlainDesk;
 use lb_model::ServedList;
-use site_reports::{AcceptedSite, Report, SiteFound, judge_site, refusal_text};
+use site_reports::{
+    AcceptedSite, Report, SiteFound, judge_site, map_refusal_text, workers_refusal_text,
+};
 use std::alloc::Global;
 use std::marker::Brand;
 
@@ -182,8 +184,8 @@ fn lines_over(alloc: Global, found: &SiteFound, wire: Wire<'_>) -> Result<Bytes,
     match found {
         SiteFound::Workers(_) => Ok(Bytes::new(alloc)),
         SiteFound::Site(site) => of_site(alloc, site, wire),
-        SiteFound::WorkersRefused(r) => refusal_text(alloc, b"workers", r.line, r.code),
-        SiteFound::MapRefused(r) => refusal_text(alloc, b"map", r.line, r.code),
+        SiteFound::WorkersRefused(r) => workers_refusal_text(alloc, r.refusal),
+        SiteFound::MapRefused(r) => map_refusal_text(alloc, r.refusal),
     }
 }
 

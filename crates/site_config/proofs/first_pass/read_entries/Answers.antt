@@ -12,7 +12,7 @@ loop-line-preserved-in_ok-push c =
     let n = c.loop-line.number + 1 in
     let line = c.in-Some.line.now in
     let front = as_properties c.loop-line.entries.items in
-    let says : said c.args.values n (trimmed line) ≡ Ok (Some (as_property c.in-Some-2.entry)) = rw (c.trim.ensures, c.in-Some-2.is) at c.in_ok-entry.ensures in
+    let says : said c.args.values n (trimmed line) ≡ Ok (Some (as_property c.in-Some-2.entry)) = sym (rw (c.trim.ensures, c.in-Some-2.is) at c.in_ok-entry.ensures) in
     let more = line_more c.args.values n line (lines c.in-Some.behind.now) front (as_property c.in-Some-2.entry) says in
     let split = ap (λ (ls : List (List ℕ)). with_properties front (read_lines c.args.values n ls)) (sym c.in-Some.ensures.some) in
     record {

@@ -1,7 +1,6 @@
-use Rattle.std.proofs.Common.{◌≡◌, ◌==◌, ◌<◌, ◌∷◌, [], ℕ, List, length, arith, sym, ◌∙◌, ap, drop, add-one, Some}
+use Rattle.std.proofs.Common.{◌≡◌, ◌==◌, ◌<◌, ℕ, length, arith, sym, Some}
 use Rattle.std.proofs.lemmas.List.{take_rest, drop_all}
 use Rattle.site_config.specs.Cut.{cut_at}
-use Rattle.site_config.specs.Lines.{lines, without_return}
 use Rattle.site_config.proofs.CutLemmas.{cut_shorter}
 use Rattle.site_config.proofs.LineLemmas.{lines_cut, lines_one}
 use Rattle.site_config.proofs.lines.first_line.Goals as goal

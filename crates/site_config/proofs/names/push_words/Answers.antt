@@ -1,7 +1,6 @@
-use Rattle.std.proofs.Common.{◌≡◌, ◌++◌, ◌∷◌, [], ℕ, List, sym, ◌∙◌, Bor, map, append_assoc, ap, ◌<◌, length}
+use Rattle.std.proofs.Common.{sym, ◌∙◌, append_assoc}
 use Rattle.std.proofs.lemmas.Result.{on_ok_weaker}
 use Rattle.site_config.specs.Cut.{is_separator}
-use Rattle.site_config.specs.Names.{words, word_first}
 use Rattle.site_config.proofs.CutLemmas.{cut_shorter}
 use Rattle.site_config.proofs.WordLemmas.{words_cut, words_one, word_first-append}
 use Rattle.site_config.proofs.names.push_words.Goals as goal

@@ -1,4 +1,4 @@
-use Rattle.std.proofs.Common.{◌≡◌, ◌++◌, ◌<◌, ℕ, Bool, List, [], length, sym, ◌∙◌, refl, ap, Some, None, Option}
+use Rattle.std.proofs.Common.{◌≡◌, ◌++◌, ℕ, Bool, List, [], sym, ◌∙◌, refl, Some, None, Option}
 use Rattle.site_config.specs.Cut.{is_separator}
 use Rattle.site_config.specs.Names.{words, word_first}
 use Rattle.site_config.specs.Values.{statuses_after}

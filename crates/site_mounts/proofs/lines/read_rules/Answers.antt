@@ -1,8 +1,7 @@
-use Rattle.std.proofs.Common.{◌+◌, ◌++◌, sym, ◌∙◌, append_assoc, arith}
+use Rattle.std.proofs.Common.{◌+◌, sym, ◌∙◌, append_assoc, arith}
 use Rattle.jk_io.specs.Decimals.{trimmed}
 use Rattle.site_config.specs.Lines.{lines}
 use Rattle.site_mounts.specs.Lines.{read_lines, said}
-use Rattle.site_mounts.specs.MapNotes.{line_notes, notes_from}
 use Rattle.site_mounts.proofs.LineLemmas.{handed_on, read_ended, read_stands, refused_line, with_line}
 use Rattle.site_mounts.proofs.NoteLemmas.{noted_ended}
 use Rattle.site_mounts.proofs.lines.read_rules.Goals as goal

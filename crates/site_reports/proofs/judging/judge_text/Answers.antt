@@ -14,6 +14,6 @@ returns-in-Ok c =
 
 pub returns-in-Err-Refused : goal.returns-in-Err-Refused
 returns-in-Err-Refused c =
-    let bad : read_text true c.args.text.now ≡ Err (record { line = c.in-Err-Refused.line; code = c.in-Err-Refused.code }) =
+    let bad : read_text true c.args.text.now ≡ Err c.in-Err-Refused.refusal =
     rw c.in-Err-Refused.field-0-is at c.in-Err-Refused.ensures.entries in
     rw c.in-Err-Refused.field-0-is (inl bad, ap result_err bad)

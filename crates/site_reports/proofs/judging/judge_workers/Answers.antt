@@ -1,5 +1,4 @@
 use Rattle.site_workers.specs.Site.{IsConfig}
-use Rattle.site_reports.specs.Judgements.{IsJudgement}
 use Rattle.site_reports.specs.Notes.{AreNotes}
 use Rattle.site_reports.proofs.judging.judge_workers.Goals as goal
 

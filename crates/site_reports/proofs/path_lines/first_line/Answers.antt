@@ -1,6 +1,5 @@
-use Rattle.std.proofs.Common.{◌≡◌, ◌==◌, ◌<◌, ℕ, length, arith, sym, Some}
+use Rattle.std.proofs.Common.{◌==◌, ◌<◌, ℕ, length, arith, sym}
 use Rattle.std.proofs.lemmas.List.{take_rest, drop_all}
-use Rattle.site_config.specs.Cut.{cut_at}
 use Rattle.site_config.proofs.CutLemmas.{cut_shorter}
 use Rattle.site_reports.proofs.PathLineLemmas.{lines_cut, lines_one}
 use Rattle.site_reports.proofs.path_lines.first_line.Goals as goal

@@ -92,4 +92,4 @@ returns-in-None-next_on_way-clause-broken c =
     let shut = open_none (is_open c.args.given.now.names.now c.as_slice.result.now (target_name p)) (target_name p) c.in-None-next_on_way.ensures in
     let shut_now : is_open c.args.given.now.names.now (adjusted passed_row rows i) (target_name p) ≡ false = rw (c.as_slice.ensures.value, c.pass.ensures) at shut in
     let breaks = way_breaks ps c.args.start.now c.args.given.now.names.now rows _ c.loop-at.at.now i c.index.result.now p c.args.given.now.known c.loop-at.invariant num got whole at shut_now in
-    rw c.refused.ensures (breaks, refl)
+    rw c.refused.ensures (p.line, breaks, refl)

@@ -4,21 +4,21 @@ use Rattle.site_config.specs.Entries.{as_properties}
 use Rattle.site_config.specs.Properties.{read_text}
 use Rattle.site_config.specs.Refusals.{AnswersWorkers, IsRefusal}
 use Rattle.site_config.specs.declared.config.Config.{Config}
-use Rattle.site_config.specs.declared.error.PropsError.{PropsError}
-use Rattle.site_config.specs.declared.error.PropsError.TheVariants as errors
+use Rattle.site_config.specs.declared.error.WorkersError.{WorkersError}
+use Rattle.site_config.specs.declared.error.WorkersError.TheVariants as errors
 use Rattle.site_config.specs.declared.property.Property.{Property}
 use Rattle.site_workers.specs.Site.{IsRefusedText, RefusesWorkers}
-use Rattle.site_workers.proofs.workers.read_workers.Goals as goal
+use Rattle.site_workers.proofs.workers.workers_in.Goals as goal
 
 -- a line by itself is refused
-by_line : (text : List ℕ) (e : PropsError) → AnswersWorkers {X = List Property} (λ ps. ps) (Err e) (read_text true text) → IsRefusal (IsRefusedText text) e
-by_line text (errors.Refused line code) h = inl h
+by_line : (text : List ℕ) (e : WorkersError) → AnswersWorkers {X = List Property} (λ ps. ps) (Err e) (read_text true text) → IsRefusal (IsRefusedText text) e
+by_line text (errors.Refused r) h = inl h
 by_line text errors.NoMemory h = tt
 
 -- the workers are
-by_workers : (text : List ℕ) (ps : List Property) (r : Result Config PropsError) → read_text true text ≡ Ok ps → IfErr r (IsRefusal (RefusesWorkers ps)) → IfErr r (IsRefusal (IsRefusedText text))
+by_workers : (text : List ℕ) (ps : List Property) (r : Result Config WorkersError) → read_text true text ≡ Ok ps → IfErr r (IsRefusal (RefusesWorkers ps)) → IfErr r (IsRefusal (IsRefusedText text))
 by_workers text ps (Ok c) read stops = tt
-by_workers text ps (Err (errors.Refused line code)) read stops = inr (ps, read, stops)
+by_workers text ps (Err (errors.Refused r)) read stops = inr (ps, read, stops)
 by_workers text ps (Err errors.NoMemory) read stops = tt
 
 pub returns-in_err-entries-clause-refused : goal.returns-in_err-entries-clause-refused
