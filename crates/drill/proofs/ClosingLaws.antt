@@ -128,6 +128,7 @@ measured_whole seed threads requests bytes books (Ok m) journal only kept bodies
         told = once.0;
         counted = subst (λ (n : ℕ). CountsDrill seed threads requests once.0 n) (sym bodies) once.1;
         once = λ locked. subst (λ (bs : List Journal). AreReceiptsOf once.0 bs) only (once.2 all);
+        own = λ passes. absurd cc;
         closed = λ passes. absurd cc;
       };
       receipts = receipts;

@@ -1,13 +1,18 @@
 -- The slots of a drill's passes, and the Book that the passes leave.
-use Rattle.std.proofs.Common.{◌≡◌, ℕ, suc, ◌+◌, ◌<◌, ◌≤◌, List, [], ◌∷◌, ◌++◌, length, map, reverse, slice_index_or, take, refl, sym, ap, ◌∙◌, subst, append_assoc, arith}
+use Rattle.std.proofs.Common.{◌≡◌, ℕ, suc, ◌+◌, ◌<◌, ◌≤◌, List, [], ◌∷◌, ◌++◌, length, map, reverse, slice_index_or, take, zero, refl, sym, ap, ◌∙◌, subst, append_assoc, arith}
 use Rattle.std.proofs.lemmas.List.{append-nil, length-map, length-reverse, map-append}
 use Rattle.std.proofs.Math.Seq.{take-append_seam}
+use mathlib.Core.Option.{some, some-injective, some-ne-none}
+use lib.ListN.{get_elem?}
 use Rattle.atomic_table.specs.Seated.{TableId}
+use Rattle.lb_book.specs.Histories.{own_of}
 use Rattle.lb_book.specs.Journal.{Journal}
 use Rattle.lb_model.specs.Journal.{members}
 use Rattle.lb_model.specs.declared.journal.Entry.{Entry}
 use Rattle.lb_model.specs.declared.opening.Opening.{Opening}
+use Rattle.lb_book.specs.declared.receipt.Receipt.{Receipt}
 use Rattle.lb_passes.specs.Closing.{AreAllPasses, CloseInOne}
+use Rattle.lb_passes.specs.Holds.{entries_in, own_in}
 use Rattle.lb_passes.specs.PassDesks.{view_of}
 use Rattle.lb_passes.specs.Passes.{AreNewPasses, IsNewPass, origin_of}
 use Rattle.lb_passes.specs.Placed.{AreBack, AreEachBack, AreFrom, IsBack, origin_in, table_in_passes}
@@ -16,7 +21,8 @@ use Rattle.lb_passes.proofs.PlacedLaws.{AreNext, back_at, back_more, from_more, 
 use Rattle.lb_passes.specs.Turns.{IsBookOf}
 use Rattle.lb_passes.specs.declared.pass_view.Origin.{Origin}
 use Rattle.lb_passes.proofs.BookLaws.{book_entries}
-use Rattle.drill.specs.Ends.{IsOfDrill, IsStarted}
+use Rattle.lb_passes.proofs.GotLaws.{within_at}
+use Rattle.drill.specs.Ends.{AreOwnReceipts, IsOfDrill, IsStarted}
 use Rattle.drill.specs.Sites.{IsDrillBook}
 
 -- Where each keeps its number, all do.
@@ -131,4 +137,56 @@ closed_drill table from start b given passes started is are closed =
         moment = ap (λ (x : Opening). x.at) opening ∙ started.moment;
       };
       kept = omega (arith, counted, none, many);
+    }
+
+-- ---- the receipts of the threads, and what their passes own
+
+pub told_entries : {A : Type 0} (receipts : A → List Receipt) (xs : List A) → map entries_in (map receipts xs) ≡ map (λ (x : A). entries_in (receipts x)) xs
+told_entries receipts [] = refl
+told_entries {A} receipts (x ∷ xs) = ap (λ (ls : List (List Entry)). entries_in (receipts x) ∷ ls) (told_entries receipts xs)
+
+numbered_at : (k : ℕ) (passes : List Pass) (i : ℕ) (p : Pass) → AreFrom k (map (λ (x : Pass). x.number) passes) → get_elem? passes i ≡ some p → p.number ≡ k + i
+numbered_at k [] i p are at = absurd (some-ne-none p (sym at))
+numbered_at k (q ∷ passes) zero p are at =
+    let here : p.number ≡ k = ap (λ (x : Pass). x.number) (sym (some-injective q p at)) ∙ are.0 in omega (arith, here)
+numbered_at k (q ∷ passes) (suc i) p are at =
+    let rest : p.number ≡ k + 1 + i = numbered_at (k + 1) passes i p are.1 at in omega (arith, rest)
+
+-- The pass at the place of a thread's receipts owns their entries.
+owner_at : (t : ℕ) (passes : List Pass) (told : List (List Receipt)) (receipts : List Receipt)
+    → map (λ (p : Pass). own_in (view_of p)) passes ≡ map entries_in told → get_elem? told t ≡ some receipts
+    → (p : Pass) × (get_elem? passes t ≡ some p) × (own_in (view_of p) ≡ entries_in receipts)
+owner_at t passes [] receipts same at = absurd (some-ne-none receipts (sym at))
+owner_at t [] (rs ∷ told) receipts same at = absurd cc
+owner_at zero (p ∷ passes) (rs ∷ told) receipts same at =
+    let first : own_in (view_of p) ≡ entries_in rs = cc in (p, refl, first ∙ ap entries_in (some-injective rs receipts at))
+owner_at (suc t) (p ∷ passes) (rs ∷ told) receipts same at =
+    let rest : map (λ (x : Pass). own_in (view_of x)) passes ≡ map entries_in told = cc in owner_at t passes told receipts rest at
+
+-- In the Book that they leave, what the passes own are the entries of their threads.
+pub closed_own : (table : TableId) (from : Origin) (start b : Journal) (given : ℕ) (passes : List Pass) (told : List (List Receipt)) → from ≡ origin_of start 0
+    → AreBack table from given passes → CloseInOne passes b → map (λ (p : Pass). own_in (view_of p)) passes ≡ map entries_in told → AreOwnReceipts told b
+closed_own table from start b given passes told is are closed own =
+    let o : Origin = origin_of start 0 in
+    let knows : (view_of closed.first.pass).origin ≡ o = (back_at table from given passes closed.first.place closed.first.pass are.each closed.first.at).origin ∙ is in
+    let stands : IsBookOf o closed.log b = subst (λ (x : Origin). IsBookOf x closed.log b) knows closed.stands in
+    let entries : closed.log ≡ b.entries = book_entries o closed.log b stands refl in
+    let long : length (map (λ (p : Pass). own_in (view_of p)) passes) ≡ length (map entries_in told) = ap (λ (ls : List (List Entry)). length ls) own in
+    let many : length told ≡ length passes = omega (arith, long, length-map passes (λ (p : Pass). own_in (view_of p)), length-map told entries_in) in
+    record {
+      own = λ t receipts at.
+          let found = owner_at t passes told receipts own at in
+          let number : found.0.number ≡ t = let sum : found.0.number ≡ 0 + t = numbered_at 0 passes t found.0 are.numbers found.1 in omega (arith, sum) in
+          sym found.2
+          ∙ closed.own t found.0 found.1
+          ∙ ap (λ (n : ℕ). own_of n closed.log) number
+          ∙ ap (λ (h : List Entry). own_of t h) entries;
+      no_others = λ t above.
+          ap (λ (h : List Entry). own_of t h) (sym entries)
+          ∙ closed.no_others t
+          (λ has.
+          let place : has.pass.number ≡ 0 + has.place = numbered_at 0 passes has.place has.pass are.numbers has.at in
+          let within : has.place < length passes = within_at passes has.place has.pass has.at in
+          let number : has.pass.number ≡ t = has.number in
+          omega (arith, above, many, place, within, number));
     }

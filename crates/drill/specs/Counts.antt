@@ -1,6 +1,6 @@
 -- What the threads of a drill made: the bytes of the bodies in the rows of their sessions, and the receipts that their desks got
 -- in these. Read this after Bodies.
-use Rattle.std.specs.Prelude.{◌≡◌, ◌≤◌, ℕ, List, [], ◌∷◌, length, map, Option, Some, IfSome}
+use Rattle.std.specs.Prelude.{◌≡◌, ◌<◌, ◌≤◌, ℕ, List, [], ◌∷◌, length, map, slice_index_or, Option, Some, IfSome}
 use Rattle.std.specs.List.{flat_map}
 use mathlib.Core.Option.{some}
 use lib.ListN.{get_elem?}
@@ -14,7 +14,7 @@ use Rattle.client_session.specs.Sessions.{Serves}
 use Rattle.client_session.specs.Standings.{ClientStanding}
 use Rattle.client_session.specs.declared.ending.SessionEnd.{SessionEnd}
 use Rattle.drill.specs.Bodies.{all_together, AreCounted, with_bodies}
-use Rattle.drill.specs.Requests.{requests_of, texts_of}
+use Rattle.drill.specs.Requests.{RequestsState, requests_of, texts_of}
 use Rattle.drill.specs.Sites.{IsDrillSite}
 use Rattle.drill.specs.declared.plan.Plan.{Plan}
 use Rattle.drill.specs.declared.site.DrillSite.{DrillSite}
@@ -63,6 +63,10 @@ pub record CountsSessions (v : Visit) (seed : ℕ) (requests : List ℕ) (had no
   pub each : AreDeskSessions v seed had sessions now
   pub count : after ≡ with_bodies before (flat_map (λ s. s.rows) sessions)
 
+-- The requests that the thread at this post had still to make were made so.
+abbrev pub CountsLeft : Post → RequestsState → (had now : List Receipt) → (before after : ℕ) → Type 0
+CountsLeft post requests had now before after = CountsSessions (visit_at post) requests.seed requests.left had now before after
+
 -- Thread t made all its requests on this site, and the bodies in the rows of its sessions had these bytes. Its desk had the
 -- receipts `had` before, and has `now`.
 abbrev pub CountsThread : Config → List Rule → (seed threads requests t : ℕ) → (had now : List Receipt) → (bytes : ℕ) → Type 0
@@ -81,6 +85,13 @@ IsMadeBy site plan t had made =
 -- so it is of each thread, in order, whose desks had no receipt before
 abbrev pub AreMade : DrillSite → Plan → List MadeNote → Type 0
 AreMade site plan made = (t : ℕ) (own : MadeNote) → get_elem? made t ≡ some own → IsMadeBy site plan t [] own
+
+-- Each of these threads made what its slot then notes: the receipts that its desk has, and its count. The slot at a place is
+-- that of the thread of this number.
+abbrev pub MakesEach : {A : Type 0} → DrillSite → Plan → (number : (place : ℕ) → A → ℕ) → (note : A → MadeNote) → (old new : List A) → Type 0
+MakesEach {A} site plan number note old new =
+    (i : ℕ) (d : A) → i < length old
+    → IsMadeBy site plan (number i (slice_index_or old i d)) (note (slice_index_or old i d)).0 (note (slice_index_or new i d))
 
 -- Each thread of the drill made all its requests on one site, over a desk of its own. These are the receipts that each desk got,
 -- in the threads' order, and the bytes of the bodies in the rows of all their sessions together.

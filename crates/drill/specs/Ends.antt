@@ -1,7 +1,9 @@
 -- A drill that was handed out, as its summary or its journal, and why there is none.
-use Rattle.std.specs.Prelude.{◌≡◌, ℕ, Bool, true, false, List, [], ◌∷◌, length, map, if◌then◌else◌}
+use Rattle.std.specs.Prelude.{◌≡◌, ◌≤◌, ℕ, Bool, true, false, List, [], ◌∷◌, length, map, if◌then◌else◌}
 use Rattle.std.specs.List.{flat_map}
 use Rattle.std.specs.List.Sorted.{IsPermutation}
+use mathlib.Core.Option.{some}
+use lib.ListN.{get_elem?}
 use Rattle.lb_model.specs.Journal.{members}
 use Rattle.lb_model.specs.Limits.{modern_rules}
 use Rattle.lb_model.specs.declared.journal.Entry.{Entry}
@@ -12,7 +14,7 @@ use Rattle.lb_passes.specs.Closing.{CloseInOne}
 use Rattle.lb_passes.specs.Placed.{AreFrom}
 use Rattle.lb_passes.specs.declared.pass.Pass.{Pass}
 use Rattle.drill.specs.Counts.{CountsDrill}
-use Rattle.drill.specs.Drills.{IsDrilled}
+use Rattle.drill.specs.Drills.{IsDrilled, entries_of}
 use Rattle.drill.specs.Requests.{bodies_of}
 use Rattle.drill.specs.Sites.{IsDrillBook}
 use Rattle.drill.specs.Summaries.{IsJournalText, summary_text}
@@ -62,12 +64,20 @@ pub record IsClosedByAll (threads : ℕ) (b : Journal) : Type 0 where
   pub numbers : AreFrom 0 (map (λ p. p.number) passes)
   pub closed : CloseInOne passes b
 
--- What the threads made: the bodies in the rows of their sessions had these bytes, and their desks got these receipts. Where
--- the desks stood behind a lock, the receipts are the Book's entries; else the Book was closed with a pass of each thread.
+-- The receipts of each thread are just the entries of its calls in the Book's journal, each once and in their order, and the
+-- journal has no others.
+pub record AreOwnReceipts (told : List (List Receipt)) (b : Journal) : Type 0 where
+  pub own : (t : ℕ) (receipts : List Receipt) → get_elem? told t ≡ some receipts → map (λ r. r.entry) receipts ≡ entries_of t b.entries
+  pub no_others : (t : ℕ) → length told ≤ t → entries_of t b.entries ≡ []
+
+-- What the threads made: the bodies in the rows of their sessions had these bytes, and their desks got these receipts, which
+-- are the Book's entries, each once. Where the threads took turns, those of each thread are the entries of its own calls in
+-- their order, and the Book was closed with a pass of each thread.
 pub record IsCompared (seed threads requests : ℕ) (passes : Bool) (bytes : ℕ) (b : Journal) : Type 0 where
   pub told : List (List Receipt)
   pub counted : CountsDrill seed threads requests told bytes
   pub once : passes ≡ false → AreReceiptsOf told (b ∷ [])
+  pub own : passes ≡ true → AreOwnReceipts told b
   pub closed : passes ≡ true → IsClosedByAll threads b
 
 -- The text that a drill hands out: the summary of its Book's journal, or that journal's text. In the journal each request of

@@ -1,14 +1,14 @@
 //! The threads of a drill that take turns at one Book, each with a pass.
-ghost use Rattle.std.specs.Prelude.{◌≡◌, ◌<◌, ◌≤◌, ℕ, List, [], ◌∷◌, length, map, vec_capacity, vec_len, IfOk, Some, slice_index_or};
+ghost use Rattle.std.specs.Prelude.{◌≡◌, ◌<◌, ◌≤◌, ℕ, [], ◌∷◌, length, map, vec_capacity, vec_len, IfOk, Some, slice_index_or};
 ghost use Rattle.std.specs.List.{All};
-ghost use Rattle.lb_book.specs.declared.receipt.Receipt.{Receipt};
 ghost use Rattle.lb_model.specs.Journal.{members};
-ghost use Rattle.lb_passes.specs.PassDesks.{table_in};
+ghost use Rattle.lb_passes.specs.Holds.{entries_in, own_in};
+ghost use Rattle.lb_passes.specs.PassDesks.{table_in, view_of};
 ghost use Rattle.lb_passes.specs.declared.pass_book.PassBook.{PassBook};
 ghost use Rattle.drill.specs.Bodies.{all_together};
-ghost use Rattle.drill.specs.Counts.{AreMade, CountsDrill, IsMadeBy};
-ghost use Rattle.drill.specs.Turns.{AreDrillPasses};
-ghost use Rattle.lb_passes.specs.Placed.{AreBack, AreEachBack, AreFrom, IsBack};
+ghost use Rattle.drill.specs.Counts.{AreMade, IsMadeBy, MakesEach};
+ghost use Rattle.drill.specs.Turns.{AreDrillPasses, LeavesPasses};
+ghost use Rattle.lb_passes.specs.Placed.{AreBack, AreEachBack, AreFrom, IsUnused};
 
 use crate::body_sum::together;
 use crate::plan::{MAX_THREADS, Plan};
@@ -47,7 +47,7 @@ fn slot_of<'b, 'r, P: PassPlace, R>(
     number: u32,
 ) -> Result<PassSlot<'b, 'r, P, R>, NoMemory>
     requires book { (b : PassBook) × (books.now ≡ b ∷ []) × (table_in b ≡ P.table) }
-    requires pass { IsBack P.table P.origin P.given pass }
+    requires pass { IsUnused P.table P.origin P.given pass }
     requires number { pass.number ≡ number }
     requires two { members P.origin.opening ≡ 2 }
     ensures number { IfOk result (λ s. s.number ≡ number) }
@@ -105,9 +105,7 @@ fn serve_slots<'b, 'r, P: PassPlace + Send + Sync, R: Threads + Wait + Sync>(
 )
     requires few { length slots.old ≤ MAX_THREADS }
     ensures numbers { (i : ℕ) (d : _) → i < length slots.old → (slice_index_or slots.new i d).number ≡ (slice_index_or slots.old i d).number }
-    ensures made { (i : ℕ) (d : _) → i < length slots.old
-        → IsMadeBy site.now plan (slice_index_or slots.old i d).number (slice_index_or slots.old i d).desk.desk.desk.receipts
-        ((slice_index_or slots.new i d).desk.desk.desk.receipts, (slice_index_or slots.new i d).made) }
+    ensures made { MakesEach site.now plan (λ _ s. s.number) (λ s. (s.desk.desk.desk.receipts, s.made)) slots.old slots.new }
     ensures len { length slots.new ≡ length slots.old }
 {
     let count = slots.len().max(1);
@@ -133,6 +131,7 @@ fn empty_slots<'b, 'r, P: PassPlace, R>(
     requires room { vec_len slots ≤ vec_capacity passes.old }
     ensures numbers { map (λ p. p.number) passes.new.items ≡ map (λ s. s.number) slots.entry.items }
     ensures back { AreEachBack P.table P.origin P.given passes.new.items }
+    ensures own { map (λ p. own_in (view_of p)) passes.new.items ≡ map (λ s. entries_in s.desk.desk.desk.receipts) slots.entry.items }
     ensures bodies { result ≡ all_together (map (λ s. s.made) slots.entry.items) }
 {
     let mut bodies = Some(0);
@@ -180,8 +179,8 @@ pub(crate) fn serve_in_turns<'b, P: PassPlace + Send + Sync, R: Threads + Wait +
     requires threads { P.given ≡ plan.threads }
     ensures back { IfOk result (λ left. AreBack P.table P.origin P.given left.passes) }
 
-    // The bytes of the bodies are those of the rows of the threads' sessions.
-    ensures counted { IfOk result (λ left. (told : List (List Receipt)) × CountsDrill plan.seed plan.threads plan.requests told left.bodies) }
+    // The bytes of the bodies are those of the rows of the threads' sessions, and the passes' own entries are their receipts'.
+    ensures counted { IfOk result (LeavesPasses plan.seed plan.threads plan.requests) }
 {
     let mut slots = slots_for::<P, R>(alloc, rt, books, passes)?;
     let mut passes = Vec::with_capacity(alloc, slots.len())?;

@@ -288,7 +288,7 @@ fn passed_book<R: Threads + Wait + Sync>(
             bodies,
             receipts: 0,
         }),
-        Err(_) => Err(NoMemory),
+        Err(_) => unreachable!(),
     }
 }
 
@@ -333,8 +333,8 @@ pub fn run_drill<R: Threads + Wait + Sync>(
     ensures drilled { IfOk result (λ d. IsDrilled threads requests d.book.entries) }
     ensures book { IfOk result (λ d. IsOfDrill d.book) }
 
-    // The bodies in the rows of all sessions had the bytes that the requests asked for. Over a lock the receipts of the threads'
-    // desks are the journal's entries, each once; over passes the Book was closed with a pass of each thread.
+    // The bodies in the rows of all sessions had the bytes that the requests asked for. The receipts of the threads' desks are the
+    // journal's entries, each once; over passes those of each thread in their order, and the Book was closed with all passes.
     ensures bodies { IfOk result (λ d. d.bodies ≡ bodies_of seed requests) }
     ensures compared { IfOk result (λ d. IsCompared seed threads requests passes d.bodies d.book) }
     ensures receipts { IfOk result (λ d. d.receipts ≡ receipts_of passes d.book.entries) }

@@ -1,8 +1,8 @@
 //! A desk for each thread of a drill, and the threads.
-ghost use Rattle.std.specs.Prelude.{◌≡◌, ◌+◌, ◌<◌, ◌≤◌, ℕ, [], ◌∷◌, length, map, sum_by, vec_capacity, vec_len, IfOk, OnOk, slice_index_or, Some, true};
+ghost use Rattle.std.specs.Prelude.{◌≡◌, ◌+◌, ◌<◌, ◌≤◌, ℕ, [], ◌∷◌, length, map, sum_by, vec_capacity, vec_len, IfOk, OnOk, Some, true};
 ghost use Rattle.std.specs.List.{All};
 ghost use Rattle.drill.specs.Bodies.{all_together};
-ghost use Rattle.drill.specs.Counts.{AreMade, CountsDrill, IsMadeBy};
+ghost use Rattle.drill.specs.Counts.{AreMade, CountsDrill, IsMadeBy, MakesEach};
 ghost use Rattle.drill.specs.Threads.{IsWholeDesk};
 
 use crate::body_sum::together;
@@ -125,8 +125,7 @@ fn serve_slots<'s, 'r, L: SiteName + Send + Sync, R: Threads + Wait + Sync>(
     slots: &mut [Slot<'s, 'r, L, R>],
 )
     requires few { length slots.old ≤ MAX_THREADS }
-    ensures made { (i : ℕ) (d : _) → i < length slots.old → IsMadeBy site.now plan i (slice_index_or slots.old i d).desk.desk.receipts
-        ((slice_index_or slots.new i d).desk.desk.receipts, (slice_index_or slots.new i d).made) }
+    ensures made { MakesEach site.now plan (λ place _. place) (λ s. (s.desk.desk.receipts, s.made)) slots.old slots.new }
     ensures len { length slots.new ≡ length slots.old }
 {
     let count = slots.len().max(1);

@@ -8,7 +8,7 @@ ghost use Rattle.client_session.specs.Requests.{visit_of};
 ghost use Rattle.client_session.specs.Whole.{IsWholeSession};
 ghost use Rattle.client_session.specs.declared.ending.SessionEnd.{SessionEnd};
 ghost use Rattle.drill.specs.Bodies.{AreCounted};
-ghost use Rattle.drill.specs.Counts.{CountsRows, CountsSessions, CountsThread, visit_at};
+ghost use Rattle.drill.specs.Counts.{CountsLeft, CountsRows, CountsThread, visit_at};
 
 use crate::app_reach::AppReach;
 use crate::body_sum::BodySum;
@@ -122,7 +122,7 @@ where
     B::Mark: Drop,
     B::Shown: Drop,
     requires ready { IsReady (visit_at post) (B.state desk.old) (R.beside reach.old) }
-    ensures counted { IfOk result (λ _. CountsSessions (visit_at post.entry) requests.old.seed requests.old.left
+    ensures counted { IfOk result (λ _. CountsLeft post.entry requests.old
         (B.state desk.old).receipts (B.state desk.new).receipts bodies.old.bytes bodies.new.bytes) }
     ensures kept { KeepsTickets post.entry.number (B.state desk.old) (B.state desk.new) }
 {

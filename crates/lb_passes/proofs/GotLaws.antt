@@ -116,6 +116,7 @@ sees_more v w b gained turn =
 pub sees_set : (old new : PassDeskState) (lb : ℕ) (p q : Pass) → get_elem? old.passes lb ≡ some p → new.passes ≡ set old.passes lb q
     → SeesMore (view_of p) (view_of q) (entries_in (gained_in old.desk.receipts new.desk.receipts)) → SeesAt old new lb
 sees_set old new lb p q at is sees = record {
+  within = within_at old.passes lb p at;
   others = λ j other. ap (λ (xs : List Pass). get_elem? xs j) is ∙ set_else old.passes lb j q other;
   sees = λ r found.
       let same : p ≡ r = some-injective p r (sym at ∙ found) in (

@@ -1,14 +1,34 @@
 -- A pass that stays at its place, and all passes of a place together.
-use Rattle.std.proofs.Common.{◌≡◌, ℕ, zero, suc, ◌+◌, ◌<◌, ◌≤◌, List, [], ◌∷◌, ◌++◌, length, map, Some, refl, sym, ap, ◌∙◌, subst, arith, length-append}
+use Rattle.std.proofs.Common.{◌≡◌, ℕ, zero, suc, ◌+◌, ◌<◌, ◌≤◌, List, [], ◌∷◌, ◌++◌, length, map, Some, Result, Ok, Err, inl, inr, refl, sym, ap, ◌∙◌, subst, arith, length-append}
+use Rattle.std.specs.Prelude.{IfOk, IfErr, IsOk}
+use Rattle.std.proofs.lemmas.List.{append-nil, map-append}
 use mathlib.Core.Option.{some, some-injective, some-ne-none}
 use native.Mathlib.Decide.{ℕ_discrete}
 use lib.ListN.{get_elem?}
 use Rattle.atomic_table.specs.Seated.{TableId}
+use Rattle.lb_model.specs.declared.ask.Ask.{Ask}
+use Rattle.lb_model.specs.declared.change.Command.{Command}
+use Rattle.lb_model.specs.declared.journal.Entry.{Entry}
+use Rattle.lb_model.specs.declared.journal.Outcome.{Outcome}
+use Rattle.lb_model.specs.declared.refusal.AdminError.{AdminError}
+use Rattle.lb_model.specs.declared.refusal.RoomError.{RoomError}
+use Rattle.lb_model.specs.declared.refusal.FullMark.{FullMark}
+use Rattle.lb_model.specs.declared.refusal.Stray.{Stray}
+use Rattle.lb_book.specs.Desks.{Chooses, Commands, DeskState, LeaseNote, RefusesChoice, RefusesCommand, TakesBack}
+use Rattle.lb_book.specs.PlainLeases.{note_of}
+use Rattle.lb_book.specs.declared.desk.Choice.{Choice}
+use Rattle.lb_book.specs.declared.plain_desk.PlainLease.{PlainLease}
+use Rattle.lb_book.specs.declared.receipt.Receipt.{Receipt}
+use Rattle.lb_passes.proofs.GainLaws.{gained_is}
 use Rattle.lb_passes.specs.declared.pass_view.Origin.{Origin}
+use Rattle.lb_passes.specs.declared.pass_view.PassView.{PassView}
 use Rattle.lb_passes.specs.Closing.{AreAllPasses, HasNumber}
-use Rattle.lb_passes.specs.PassDesks.{ArePassesOf, PassDeskState, StayPasses, StaysPass, desk_value, sizes_in, table_in, table_of, view_of}
+use Rattle.lb_passes.specs.Holds.{entries_in, first_own, gained_in, own_in}
+use Rattle.lb_passes.specs.Notes.{MeetsAt}
+use Rattle.lb_passes.specs.PassDesks.{ArePassesOf, MaySee, PassDeskState, SeesAt, StayPasses, StaysPass, desk_value, sizes_in, table_in, table_of, view_of}
 use Rattle.lb_passes.specs.Passes.{AreNewPasses, IsNewPass}
-use Rattle.lb_passes.specs.Placed.{AreBack, AreEachBack, AreFrom, IsBack, IsPlaced, IsWaitingPass, origin_in, table_in_passes}
+use Rattle.lb_passes.specs.Placed.{AreBack, AreEachBack, AreFrom, IsBack, IsPlaced, IsUnused, IsWaitingPass, OwnsReceipts, origin_in, table_in_passes}
+use Rattle.lb_passes.specs.declared.pass.Note.{Note}
 use Rattle.lb_passes.specs.declared.pass.Pass.{Pass}
 use Rattle.lb_passes.specs.declared.pass_book.PassBook.{PassBook}
 
@@ -27,8 +47,8 @@ stay_first (p ∷ ps) [] never q at = absurd never
 stay_first (p ∷ ps) (r ∷ qs) stay q at = (p, refl, subst (λ (x : Pass). StaysPass p x) (some-injective r q at) stay.0)
 
 pub placed_stay : (table : TableId) (o : Origin) (given : ℕ) (d e : PassDeskState) → IsPlaced table o given d → StayPasses d.passes e.passes
-    → e.desk.caller ≡ d.desk.caller → e.desk.sizes ≡ d.desk.sizes → IsPlaced table o given e
-placed_stay table o given d e is stay caller sizes = record {
+    → e.desk.caller ≡ d.desk.caller → e.desk.sizes ≡ d.desk.sizes → OwnsReceipts e → IsPlaced table o given e
+placed_stay table o given d e is stay caller sizes owns = record {
   only = stay_length d.passes e.passes stay ∙ is.only;
   back = λ q at.
       let f = stay_first d.passes e.passes stay q at in
@@ -40,6 +60,7 @@ placed_stay table o given d e is stay caller sizes = record {
       };
   caller = λ q at. let f = stay_first d.passes e.passes stay q at in caller ∙ is.caller f.0 f.1 ∙ ap Some (sym f.2.number);
   sized = ap (λ (ns : List ℕ). length ns) sizes ∙ is.sized;
+  owns = owns;
 }
 
 -- The one that a list of one has.
@@ -55,6 +76,78 @@ only_at : {A : Type 0} (x y : A) (k : ℕ) → get_elem? (x ∷ []) k ≡ some y
 only_at x y zero at = some-injective x y at
 only_at x y (suc k) at = absurd (some-ne-none y (sym at))
 
+-- ---- what the one pass owns
+
+-- What came is the rest of what there is now.
+gained_after : (r r' gained : List Receipt) → r' ≡ r ++ gained → entries_in r ++ entries_in (gained_in r r') ≡ entries_in r'
+gained_after r r' gained grew =
+    ap (λ (g : List Receipt). entries_in r ++ entries_in g) (gained_is r r' gained grew)
+    ∙ sym (map-append (λ (x : Receipt). x.entry) r gained)
+    ∙ ap entries_in (sym grew)
+
+own_seen : (d e : PassDeskState) (lb : ℕ) (gained : List Receipt) → length d.passes ≡ 1 → e.desk.receipts ≡ d.desk.receipts ++ gained → SeesAt d e lb → OwnsReceipts d
+    → OwnsReceipts e
+own_seen d e lb gained only grew sees owns = λ q at.
+    let one = one_of d.passes only in
+    let here : lb ≡ 0 = omega (arith, sees.within, only) in
+    let first : get_elem? d.passes 0 ≡ some one.0 = ap (λ (xs : List Pass). get_elem? xs 0) one.1 in
+    let found = sees.sees one.0 (subst (λ (k : ℕ). get_elem? d.passes k ≡ some one.0) (sym here) first) in
+    let same : found.0 ≡ q = some-injective found.0 q (sym (subst (λ (k : ℕ). get_elem? e.passes k ≡ some found.0) here found.1) ∙ at) in
+    subst (λ (x : Pass). own_in (view_of x) ≡ entries_in e.desk.receipts) same
+    (found.2.own
+    ∙ ap (λ (es : List Entry). es ++ entries_in (gained_in d.desk.receipts e.desk.receipts)) (owns one.0 first)
+    ∙ gained_after d.desk.receipts e.desk.receipts gained grew)
+
+first_view : (ps qs : List Pass) → map view_of qs ≡ map view_of ps → (q : Pass) → get_elem? qs 0 ≡ some q → (p : Pass) × (get_elem? ps 0 ≡ some p) × (view_of q ≡ view_of p)
+first_view ps [] same q at = absurd (some-ne-none q (sym at))
+first_view [] (r ∷ qs) same q at = absurd cc
+first_view (p ∷ ps) (r ∷ qs) same q at =
+    let seen : view_of r ≡ view_of p = cc in (p, refl, ap view_of (sym (some-injective r q at)) ∙ seen)
+
+own_same : (d e : PassDeskState) → map view_of e.passes ≡ map view_of d.passes → e.desk.receipts ≡ d.desk.receipts → OwnsReceipts d → OwnsReceipts e
+own_same d e views receipts owns = λ q at.
+    let former = first_view d.passes e.passes views q at in
+    ap own_in former.2 ∙ owns former.0 former.1 ∙ ap entries_in (sym receipts)
+
+own_may : (d e : PassDeskState) (lb : ℕ) (gained : List Receipt) → length d.passes ≡ 1 → e.desk.receipts ≡ d.desk.receipts ++ gained → MaySee d e lb → OwnsReceipts d
+    → OwnsReceipts e
+own_may d e lb gained only grew may owns =
+    elim may [ inl sees ↦ own_seen d e lb gained only grew sees owns | inr none ↦ own_same d e none.0 none.1 owns ]
+
+-- After an ask, a command, a Return, a look, a note that was made, and one that was met.
+pub own_asked : (d e : PassDeskState) (lb session at : ℕ) (ask : Ask) (r : Result (Choice PlainLease) (RoomError FullMark)) → length d.passes ≡ 1
+    → IfOk r (λ c. Chooses note_of d.desk e.desk lb session at ask c) → IfErr r (λ x. RefusesChoice (λ mark. mark) d.desk e.desk lb session at x)
+    → MaySee d e lb → OwnsReceipts d → OwnsReceipts e
+own_asked d e lb session at ask (Ok c) only ok err may owns = own_may d e lb _ only ok.gains.gains.receipts may owns
+own_asked d e lb session at ask (Err x) only ok err may owns = own_may d e lb _ only err.gains.gains.receipts may owns
+
+pub own_commanded : (d e : PassDeskState) (lb session at : ℕ) (command : Command) (r : Result (Unit {0}) (AdminError FullMark)) → length d.passes ≡ 1
+    → IfOk r (λ _. Commands d.desk e.desk lb session at command) → IfErr r (λ x. RefusesCommand (λ mark. mark) d.desk e.desk lb session at command x)
+    → MaySee d e lb → OwnsReceipts d → OwnsReceipts e
+own_commanded d e lb session at command (Ok done) only ok err may owns = own_may d e lb _ only ok.gains.gains.receipts may owns
+own_commanded d e lb session at command (Err x) only ok err may owns = own_may d e lb _ only err.gains.gains.receipts may owns
+
+pub own_handed_back : (d e : PassDeskState) (lease : LeaseNote) (session at : ℕ) (outcome : Outcome) (r : Result (Unit {0}) Stray) → length d.passes ≡ 1 → IsOk r
+    → IfOk r (λ _. TakesBack d.desk e.desk session at lease outcome) → SeesAt d e lease.lb → OwnsReceipts d → OwnsReceipts e
+own_handed_back d e lease session at outcome (Ok done) only is ok sees owns = own_seen d e lease.lb _ only ok.gains.receipts sees owns
+own_handed_back d e lease session at outcome (Err stray) only is ok sees owns = absurd cc
+
+pub own_looked : (d e : PassDeskState) (lb : ℕ) → length d.passes ≡ 1 → e.desk ≡ d.desk → SeesAt d e lb → OwnsReceipts d → OwnsReceipts e
+own_looked d e lb only same sees owns =
+    own_seen d e lb [] only (ap (λ (x : DeskState). x.receipts) same ∙ sym (append-nil d.desk.receipts)) sees owns
+
+pub own_noted : (d e : PassDeskState) → map view_of e.passes ≡ map view_of d.passes → e.desk ≡ d.desk → OwnsReceipts d → OwnsReceipts e
+own_noted d e views same owns = own_same d e views (ap (λ (x : DeskState). x.receipts) same) owns
+
+pub own_met : (d e : PassDeskState) (note : Note) → length d.passes ≡ 1 → e.desk ≡ d.desk → MeetsAt d e 0 note → OwnsReceipts d → OwnsReceipts e
+own_met d e note only same met owns = λ q at.
+    let one = one_of d.passes only in
+    let first : get_elem? d.passes 0 ≡ some one.0 = ap (λ (xs : List Pass). get_elem? xs 0) one.1 in
+    let found = met.meets one.0 first in
+    let is : found.0 ≡ q = some-injective found.0 q (sym found.1 ∙ at) in
+    subst (λ (x : Pass). own_in (view_of x) ≡ entries_in e.desk.receipts) is
+    (ap first_own found.2.owns ∙ owns one.0 first ∙ ap (λ (x : DeskState). entries_in x.receipts) (sym same))
+
 -- A desk of one pass.
 pub one_desk : (books : List PassBook) (passes : List Pass) (b : PassBook) (p : Pass) → books ≡ b ∷ [] → passes ≡ p ∷ [] → table_of p ≡ table_in b → ArePassesOf books passes
 one_desk books passes b p books_are passes_are of =
@@ -67,15 +160,19 @@ one_desk books passes b p books_are passes_are of =
 
 -- A new desk of one pass has its place.
 pub new_placed : (table : TableId) (o : Origin) (given n : ℕ) (d : PassDeskState) (passes : List Pass) (p : Pass) → d ≡ desk_value n passes [] [] 0 0 → passes ≡ p ∷ []
-    → ((lb : ℕ) (q : Pass) → get_elem? passes lb ≡ some q → q.number ≡ n) → IsBack table o given p → IsPlaced table o given d
-new_placed table o given n d passes p is one numbers back = record {
+    → ((lb : ℕ) (q : Pass) → get_elem? passes lb ≡ some q → q.number ≡ n) → IsUnused table o given p → IsPlaced table o given d
+new_placed table o given n d passes p is one numbers unused = record {
   only = ap (λ (s : PassDeskState). length s.passes) is ∙ ap (λ (xs : List Pass). length xs) one;
   back = λ q at.
       let has : d.passes ≡ p ∷ [] = ap (λ (s : PassDeskState). s.passes) is ∙ one in
-      subst (λ (x : Pass). IsBack table o given x) (some-injective p q (sym (ap (λ (xs : List Pass). get_elem? xs 0) has) ∙ at)) back;
+      subst (λ (x : Pass). IsBack table o given x) (some-injective p q (sym (ap (λ (xs : List Pass). get_elem? xs 0) has) ∙ at)) unused.back;
   caller = λ q at.
       ap (λ (s : PassDeskState). s.desk.caller) is ∙ ap Some (sym (numbers 0 q (sym (ap (λ (s : PassDeskState). get_elem? s.passes 0) is) ∙ at)));
   sized = ap (λ (s : PassDeskState). length s.desk.sizes) is ∙ ap (λ (xs : List Pass). length (sizes_in xs)) one;
+  owns = λ q at.
+      let has : d.passes ≡ p ∷ [] = ap (λ (s : PassDeskState). s.passes) is ∙ one in
+      subst (λ (x : Pass). own_in (view_of x) ≡ entries_in d.desk.receipts) (some-injective p q (sym (ap (λ (xs : List Pass). get_elem? xs 0) has) ∙ at))
+      (unused.none ∙ ap (λ (s : PassDeskState). entries_in s.desk.receipts) (sym is));
 }
 
 pub new_waiting : (n : ℕ) (d : PassDeskState) (passes : List Pass) (p : Pass) → d ≡ desk_value n passes [] [] 0 0 → passes ≡ p ∷ []
@@ -115,6 +212,9 @@ new_next o table given passes items same are =
 
 pub new_back : (o : Origin) (table : TableId) (given k : ℕ) (p : Pass) → IsNewPass o table given k p → IsBack table o given p
 new_back o table given k p is = record { of = is.of; origin = is.view.origin; gave = λ zero_is. is.root (sym is.number ∙ zero_is) }
+
+pub new_unused : (o : Origin) (table : TableId) (given k : ℕ) (p : Pass) → IsNewPass o table given k p → IsUnused table o given p
+new_unused o table given k p is = record { back = new_back o table given k p is; none = ap first_own is.view.owns }
 
 pub new_origin : (o : Origin) (table : TableId) (given : ℕ) (passes : List Pass) → 1 ≤ given → AreNewPasses o table given passes → origin_in passes ≡ o
 new_origin o table given [] least are = absurd (omega (arith, least, are.many))

@@ -1,5 +1,5 @@
 -- A desk over pass books with its passes, and the views of these after each of its calls.
-use Rattle.std.specs.Prelude.{◌≡◌, ℕ, ◌⊎◌, true, false, List, [], ◌∷◌, ◌++◌, length, map, reverse, Some, None}
+use Rattle.std.specs.Prelude.{◌≡◌, ◌<◌, ℕ, ◌⊎◌, true, false, List, [], ◌∷◌, ◌++◌, length, map, reverse, Some, None}
 use mathlib.Core.Option.{some}
 use lib.ListN.{get_elem?}
 use Rattle.atomic_table.specs.Seated.{TableId}
@@ -135,6 +135,7 @@ pub record SeesMore (v w : PassView) (new : List Entry) : Type 0 where
 
 -- The pass of balancer lb took a turn that added the entries of the new receipts, and every other pass is as it was.
 pub record SeesAt (old new : PassDeskState) (lb : ℕ) : Type 0 where
+  pub within : lb < length old.passes
   pub others : (j : ℕ) → (j ≡ lb → ⊥) → get_elem? new.passes j ≡ get_elem? old.passes j
   pub sees : (p : Pass) → get_elem? old.passes lb ≡ some p
       → (q : Pass) × (get_elem? new.passes lb ≡ some q) × SeesMore (view_of p) (view_of q) (entries_in (gained_in old.desk.receipts new.desk.receipts))

@@ -5,6 +5,7 @@ use lib.ListN.{get_elem?}
 use Rattle.atomic_table.specs.Seated.{TableId}
 use Rattle.lb_book.specs.Desks.{DeskState}
 use Rattle.lb_model.specs.Journal.{members}
+use Rattle.lb_passes.specs.Holds.{entries_in, own_in}
 use Rattle.lb_passes.specs.PassDesks.{PassDeskState, table_of, view_of}
 use Rattle.lb_passes.specs.declared.pass.Pass.{Pass}
 use Rattle.lb_passes.specs.Plays.{no_origin}
@@ -30,6 +31,11 @@ pub record IsBack (table : TableId) (o : Origin) (given : ℕ) (p : Pass) : Type
   pub origin : (view_of p).origin ≡ o
   pub gave : p.number ≡ 0 → (view_of p).given ≡ given
 
+-- One of this place that has no entry of its own yet.
+pub record IsUnused (table : TableId) (o : Origin) (given : ℕ) (p : Pass) : Type 0 where
+  pub back : IsBack table o given p
+  pub none : own_in (view_of p) ≡ []
+
 -- These are the numbers from n on, in order.
 abbrev pub AreFrom : (n : ℕ) → List ℕ → Type 0
 AreFrom n [] = Unit {0}
@@ -46,12 +52,17 @@ pub record AreBack (table : TableId) (o : Origin) (given : ℕ) (passes : List P
   pub numbers : AreFrom 0 (map (λ p. p.number) passes)
   pub each : AreEachBack table o given passes
 
--- A desk of one balancer with one such pass, whose number is the caller's.
+-- The own entries of a desk's first pass are those of the desk's receipts, each once and in their order.
+abbrev pub OwnsReceipts : PassDeskState → Type 0
+OwnsReceipts d = (p : Pass) → get_elem? d.passes 0 ≡ some p → own_in (view_of p) ≡ entries_in d.desk.receipts
+
+-- A desk of one balancer with one such pass, whose number is the caller's, and which owns the entries of its receipts.
 pub record IsPlaced (table : TableId) (o : Origin) (given : ℕ) (d : PassDeskState) : Type 0 where
   pub only : length d.passes ≡ 1
   pub back : (p : Pass) → get_elem? d.passes 0 ≡ some p → IsBack table o given p
   pub caller : (p : Pass) → get_elem? d.passes 0 ≡ some p → d.desk.caller ≡ Some p.number
   pub sized : length d.desk.sizes ≡ 1
+  pub owns : OwnsReceipts d
 
 -- A desk of this pass's caller that holds no ticket, and has no receipt.
 pub record IsWaitingPass (p : Pass) (d : DeskState) : Type 0 where

@@ -1,5 +1,5 @@
 //! All passes come together, and the Book is taken out.
-ghost use Rattle.std.specs.Prelude.{◌≡◌, ◌++◌, ◌∷◌, [], ℕ, IfOk};
+ghost use Rattle.std.specs.Prelude.{◌≡◌, ◌++◌, ◌∷◌, [], ℕ, IfOk, IsOk};
 ghost use mathlib.Core.Option.{some};
 ghost use lib.ListN.{get_elem?};
 ghost use Rattle.lb_passes.specs.Closing.{AreAllPasses, HasGathered, CloseInOne, IsJoiner};
@@ -24,7 +24,8 @@ pub struct CloseRefused {
 /// Takes out the Book, whose entries are those of the passes and no others. It takes no memory, so it isn't refused.
 pub fn close_passes(book: PassBook, passes: PassList) -> Result<Book, CloseRefused>
     requires all { AreAllPasses book.table.shared.table_id passes }
-    ensures { IfOk result (CloseInOne passes) }
+    ensures done { IsOk result }
+    ensures closed { IfOk result (CloseInOne passes) }
 {
     let mut list = passes.into_vec();
     let Some(last) = list.pop() else {

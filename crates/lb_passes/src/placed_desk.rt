@@ -49,12 +49,17 @@ pub struct PlacedDesk<'b, 'r, P: PassPlace, R> {
 }
 
 impl<'b, 'r, P: PassPlace, R> PlacedDesk<'b, 'r, P, R> {
-    ghost use Rattle.std.specs.Prelude.{◌≡◌, [], ◌∷◌, Some, IfOk};
-    ghost use Rattle.lb_passes.specs.Placed.{IsBack, IsWaitingPass};
-    ghost use Rattle.lb_passes.specs.PassDesks.{table_in};
+    ghost use Rattle.std.specs.Prelude.{◌≡◌, [], ◌∷◌, map, Some, IfOk};
+    ghost use mathlib.Core.Option.{some};
+    ghost use lib.ListN.{get_elem?};
+    ghost use Rattle.lb_passes.specs.Holds.{entries_in, own_in};
+    ghost use Rattle.lb_passes.specs.Notes.{IsNoteOfPass, MeetsAt};
+    ghost use Rattle.lb_passes.specs.Placed.{IsBack, IsUnused, IsWaitingPass};
+    ghost use Rattle.lb_passes.specs.PassDesks.{table_in, view_of};
+    ghost use Rattle.lb_passes.specs.declared.pass.Pass.{Pass};
     ghost use Rattle.lb_passes.specs.declared.pass_book.PassBook.{PassBook};
 
-    /// A desk with this pass of the one book.
+    /// A desk with this pass of the one book. No call was made with it yet.
     pub fn new(
         alloc: Global,
         rt: &'r R,
@@ -62,7 +67,7 @@ impl<'b, 'r, P: PassPlace, R> PlacedDesk<'b, 'r, P, R> {
         pass: Pass,
     ) -> Result<PlacedDesk<'b, 'r, P, R>, NoMemory>
         requires book { (b : PassBook) × (books.now ≡ b ∷ []) × (table_in b ≡ P.table) }
-        requires pass { IsBack P.table P.origin P.given pass }
+        requires pass { IsUnused P.table P.origin P.given pass }
         ensures { IfOk result (λ d. IsWaitingPass pass d.desk.desk) }
     {
         let mut passes = PassList::new(alloc);
@@ -77,7 +82,9 @@ impl<'b, 'r, P: PassPlace, R> PlacedDesk<'b, 'r, P, R> {
     /// A note of what the pass has seen. It takes no memory.
     pub fn note(&mut self) -> Note
         ensures of { result.seat.table_id ≡ P.table }
+        ensures note { (p : Pass) → get_elem? self.old.desk.passes 0 ≡ some p → IsNoteOfPass p result }
         ensures same { self.new.desk.desk ≡ self.old.desk.desk }
+        ensures views { map view_of self.new.desk.passes ≡ map view_of self.old.desk.passes }
     {
         self.desk.note(0)
     }
@@ -86,6 +93,7 @@ impl<'b, 'r, P: PassPlace, R> PlacedDesk<'b, 'r, P, R> {
     pub fn meet(&mut self, note: Note)
         requires of { note.seat.table_id ≡ P.table }
         ensures same { self.new.desk.desk ≡ self.old.desk.desk }
+        ensures meets { MeetsAt self.old.desk self.new.desk 0 note }
     {
         self.desk.meet(0, note);
     }
@@ -95,6 +103,9 @@ impl<'b, 'r, P: PassPlace, R> PlacedDesk<'b, 'r, P, R> {
         requires none_held { self.desk.desk.held ≡ [] }
         ensures back { IsBack P.table P.origin P.given result }
         ensures number { self.entry.desk.desk.caller ≡ Some result.number }
+
+        // The pass's own entries are those of the desk's receipts, each once and in their order.
+        ensures own { own_in (view_of result) ≡ entries_in self.entry.desk.desk.receipts }
     {
         let PlacedDesk { desk, of: _ } = self;
         let mut passes = desk.into_passes();

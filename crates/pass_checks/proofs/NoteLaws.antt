@@ -7,20 +7,20 @@ use Rattle.atomic_table.proofs.Lists.{at_last, at_longer}
 use Rattle.lb_passes.specs.declared.pass_view.Origin.{Origin}
 use Rattle.lb_passes.specs.Closing.{AreAllPasses}
 use Rattle.lb_passes.specs.Passes.{AreNewPasses, IsNewPass}
-use Rattle.lb_passes.specs.Placed.{AreBack, IsBack, origin_in, table_in_passes}
+use Rattle.lb_passes.specs.Placed.{AreBack, IsUnused, origin_in, table_in_passes}
 use Rattle.lb_passes.specs.declared.pass.Pass.{Pass}
-use Rattle.lb_passes.proofs.PlacedLaws.{all_back, new_back, new_origin, new_table}
+use Rattle.lb_passes.proofs.PlacedLaws.{all_back, new_origin, new_table, new_unused}
 
 -- The pass of a place has its number.
 new_at : (o : Origin) (table : TableId) (given k n : ℕ) (passes : List Pass) (p : Pass) → AreNewPasses o table 2 passes → given ≡ 2 → k ≡ n
-    → get_elem? passes k ≡ some p → IsBack table o given p × (p.number ≡ n)
+    → get_elem? passes k ≡ some p → IsUnused table o given p × (p.number ≡ n)
 new_at o table given k n passes p are two is at =
     let new : IsNewPass o table 2 k p = are.each k p at in
-    (subst (λ (m : ℕ). IsBack table o m p) (sym two) (new_back o table 2 k p new), new.number ∙ is)
+    (subst (λ (m : ℕ). IsUnused table o m p) (sym two) (new_unused o table 2 k p new), new.number ∙ is)
 
 -- The last pass of the list.
 pub second_off : (o : Origin) (table : TableId) (given : ℕ) (passes mid : List Pass) (q : Pass) → AreNewPasses o table 2 passes → given ≡ 2
-    → passes ≡ mid ++ q ∷ [] → IsBack table o given q × (q.number ≡ 1)
+    → passes ≡ mid ++ q ∷ [] → IsUnused table o given q × (q.number ≡ 1)
 second_off o table given passes mid q are two last =
     let many : length passes ≡ length mid + 1 = ap (λ (ps : List Pass). length ps) last ∙ length-append mid (q ∷ []) in
     new_at o table given (length mid) 1 passes q are two (omega (arith, many, are.many))
@@ -28,7 +28,7 @@ second_off o table given passes mid q are two last =
 
 -- The one before it.
 pub first_off : (o : Origin) (table : TableId) (given : ℕ) (passes mid rest : List Pass) (p q : Pass) → AreNewPasses o table 2 passes → given ≡ 2
-    → passes ≡ mid ++ q ∷ [] → mid ≡ rest ++ p ∷ [] → IsBack table o given p × (p.number ≡ 0)
+    → passes ≡ mid ++ q ∷ [] → mid ≡ rest ++ p ∷ [] → IsUnused table o given p × (p.number ≡ 0)
 first_off o table given passes mid rest p q are two last before =
     let many : length passes ≡ length mid + 1 = ap (λ (ps : List Pass). length ps) last ∙ length-append mid (q ∷ []) in
     let fewer : length mid ≡ length rest + 1 = ap (λ (ps : List Pass). length ps) before ∙ length-append rest (p ∷ []) in

@@ -1,7 +1,7 @@
 //! The two passes of a new book, each with the book that it is of.
 ghost use Rattle.std.specs.Prelude.{◌≡◌};
 ghost use Rattle.lb_passes.specs.PassDesks.{table_in};
-ghost use Rattle.lb_passes.specs.Placed.{IsBack};
+ghost use Rattle.lb_passes.specs.Placed.{IsUnused};
 
 use jk_io::NoMemory;
 use lb_passes::{Pass, PassBook, PassList, PassPlace, PlacedDesk};
@@ -9,14 +9,14 @@ use std::alloc::Global;
 use std::marker::PhantomData;
 use std::slice::from_ref;
 
-/// A pass of a place, and its book.
+/// A pass of a place with which no call was made yet, and its book.
 #[derive(Drop)]
 pub struct PlacedPass<'b, P: PassPlace> {
     pub book: &'b PassBook,
     pub pass: Pass,
     pub place: PhantomData<P>,
     pub ghost of: { table_in book.now ≡ P.table },
-    pub ghost back: { IsBack P.table P.origin P.given pass },
+    pub ghost unused: { IsUnused P.table P.origin P.given pass },
 }
 
 /// Both passes of a place that has two.

@@ -1,7 +1,7 @@
 -- A slot for one pass after the other.
 use Rattle.std.proofs.Common.{◌≡◌, ◌∙◌, ℕ, [], ap, arith, length, subst, sym}
 use Rattle.std.proofs.lemmas.List.Elements.{All-nil, All-push, All-same}
-use Rattle.lb_passes.proofs.PlacedLaws.{AreNext, new_back, new_next}
+use Rattle.lb_passes.proofs.PlacedLaws.{AreNext, new_next, new_unused}
 use Rattle.drill.proofs.PassLaws.{next_first, next_put, numbers_put}
 use Rattle.drill.proofs.pass_slots.slots_for.Goals as goal
 
@@ -25,7 +25,7 @@ pub overflow_cast-number : goal.overflow_cast-number
 overflow_cast-number g c = omega (arith, c.passes.invariant.count, ap length c.in-Some.ensures.steps.0, c.requires.few)
 
 pub slot_of-requires-clause-pass : goal.slot_of-requires-clause-pass
-slot_of-requires-clause-pass g c = new_back _ _ _ _ _ (next_first _ _ _ _ _ _ _ c.passes.invariant.next c.in-Some.ensures.steps.0)
+slot_of-requires-clause-pass g c = new_unused _ _ _ _ _ (next_first _ _ _ _ _ _ _ c.passes.invariant.next c.in-Some.ensures.steps.0)
 
 pub slot_of-requires-clause-number : goal.slot_of-requires-clause-number
 slot_of-requires-clause-number g c =

@@ -3,7 +3,7 @@ use Rattle.std.proofs.Common.{◌∙◌, ap, refl, sym}
 use Rattle.lb_model.specs.Journal.{members}
 use Rattle.lb_passes.proofs.PlacedLaws.{all_back, new_origin, new_table}
 use Rattle.lb_passes.specs.declared.pass_view.Origin.{Origin}
-use Rattle.drill.proofs.PassLaws.{belong, closed_drill, closed_there}
+use Rattle.drill.proofs.PassLaws.{belong, closed_drill, closed_own, closed_there}
 use Rattle.drill.proofs.running.passed_book.Goals as goal
 
 pub serve_in_turns-requires-clause-place : goal.serve_in_turns-requires-clause-place
@@ -26,13 +26,16 @@ close_passes-requires g c = record {
 pub returns-in-Ok : goal.returns-in-Ok
 returns-in-Ok g c = record {
   book =
-      closed_drill _ _ _ _ _ _ c.in_ok-start.ensures.start (new_origin _ _ _ _ c.args.plan.some_threads c.in_ok-book.ensures) c.in_ok-left.ensures.back c.in-Ok.ensures;
+      closed_drill _ _ _ _ _ _ c.in_ok-start.ensures.start (new_origin _ _ _ _ c.args.plan.some_threads c.in_ok-book.ensures) c.in_ok-left.ensures.back c.in-Ok.ensures.closed;
   compared = record {
-    told = c.in_ok-left.ensures.counted.0;
-    counted = c.in_ok-left.ensures.counted.1;
+    told = c.in_ok-left.ensures.counted.told;
+    counted = c.in_ok-left.ensures.counted.counted;
     once = λ locked. absurd cc;
+    own = λ passes.
+        closed_own _ _ _ _ _ _ _ (new_origin _ _ _ _ c.args.plan.some_threads c.in_ok-book.ensures) c.in_ok-left.ensures.back c.in-Ok.ensures.closed
+        c.in_ok-left.ensures.counted.own;
     closed = λ passes.
-        record { passes = _; many = c.in_ok-left.ensures.back.count; numbers = c.in_ok-left.ensures.back.numbers; closed = c.in-Ok.ensures };
+        record { passes = _; many = c.in_ok-left.ensures.back.count; numbers = c.in_ok-left.ensures.back.numbers; closed = c.in-Ok.ensures.closed };
   };
   receipts = refl;
 }

@@ -8,7 +8,7 @@ pub new-desk-requires : goal.new-desk-requires
 new-desk-requires g c =
     let book = c.requires.book in
     let one = c.in_ok-push.ensures.ok ∙ ap (λ (xs : List Pass). xs ++ c.args.pass ∷ []) c.new-passes.ensures in
-    record { passes = one_desk _ _ book.0 c.args.pass book.1 one (c.requires.pass.of ∙ sym book.2) }
+    record { passes = one_desk _ _ book.0 c.args.pass book.1 one (c.requires.pass.back.of ∙ sym book.2) }
 
 pub invariant_of-result : goal.invariant_of-result
 invariant_of-result g c =

@@ -3,7 +3,7 @@ use Rattle.std.proofs.Common.{◌∙◌, List, ap, arith}
 use lib.ListN.{get_elem?}
 use Rattle.lb_book.specs.Desks.{DeskState}
 use Rattle.lb_passes.specs.declared.pass.Pass.{Pass}
-use Rattle.lb_passes.proofs.PlacedLaws.{one_of, placed_stay}
+use Rattle.lb_passes.proofs.PlacedLaws.{one_of, own_noted, placed_stay}
 use Rattle.lb_passes.proofs.placed_desk.PlacedDesk.note.Goals as goal
 
 pub note-requires : goal.note-requires
@@ -11,7 +11,8 @@ note-requires g c = record { known = omega (arith, c.args.self.now.placed.sized)
 
 pub invariant_of-self : goal.invariant_of-self
 invariant_of-self g c = record {
-  placed = placed_stay _ _ _ _ _ c.args.self.now.placed c.note.ensures.same.stay (ap (λ (d : DeskState). d.caller) c.note.ensures.same.desk) (ap (λ (d : DeskState). d.sizes) c.note.ensures.same.desk);
+  placed = placed_stay _ _ _ _ _ c.args.self.now.placed c.note.ensures.same.stay (ap (λ (d : DeskState). d.caller) c.note.ensures.same.desk) (ap (λ (d : DeskState). d.sizes) c.note.ensures.same.desk)
+      (own_noted _ _ c.note.ensures.views c.note.ensures.same.desk c.args.self.now.placed.owns);
 }
 
 pub returns-clause-of : goal.returns-clause-of

@@ -9,7 +9,7 @@ invariant_of-first g c =
     let before : c.pop.new.self.items ≡ c.pop-2.new.self.items ++ c.in-Some-Some.first ∷ [] = search rules in
     record {
       of = c.requires.pair.of;
-      back = (first_off _ _ _ c.args.passes _ _ _ _ c.requires.pair.dealt c.requires.pair.two (sym c.into_vec-list.ensures ∙ last) before).0;
+      unused = (first_off _ _ _ c.args.passes _ _ _ _ c.requires.pair.dealt c.requires.pair.two (sym c.into_vec-list.ensures ∙ last) before).0;
     }
 
 pub invariant_of-second : goal.invariant_of-second
@@ -17,7 +17,7 @@ invariant_of-second g c =
     let last : c.into_vec-list.result.items ≡ c.pop.new.self.items ++ c.in-Some-Some.second ∷ [] = search rules in
     record {
       of = c.requires.pair.of;
-      back = (second_off _ _ _ c.args.passes _ _ c.requires.pair.dealt c.requires.pair.two (sym c.into_vec-list.ensures ∙ last)).0;
+      unused = (second_off _ _ _ c.args.passes _ _ c.requires.pair.dealt c.requires.pair.two (sym c.into_vec-list.ensures ∙ last)).0;
     }
 
 pub invariant_of-result : goal.invariant_of-result
