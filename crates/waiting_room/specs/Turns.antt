@@ -13,10 +13,16 @@ use Rattle.waiting_room.specs.declared.table.Table.{Table}
 abbrev pub Ends : Table → Type 0
 Ends table = (table.is_stopped ≡ true) ⊎ ((MayComeIn table → ⊥) × (table.clients ≡ 0))
 
+-- the room's word that it ended, and why
+abbrev pub IsClosedBy : Table → Turn → Type 0
+IsClosedBy table (Closed end) = Ends table × (end.is_stopped ≡ table.is_stopped)
+IsClosedBy table Nobody = ⊥
+IsClosedBy table (Client at stay client) = ⊥
+
 -- who is ready first is given, whether it was stopped or not
 abbrev pub GivesOf : Table → List (ℕ × Stay × clients.Client) → Turn → Type 0
 GivesOf table ((at, stay, client) ∷ rest) turn = turn ≡ Client at stay client
-GivesOf table [] turn = ((turn ≡ Closed) × Ends table) ⊎ ((turn ≡ Nobody) × (Ends table → ⊥))
+GivesOf table [] turn = IsClosedBy table turn ⊎ ((turn ≡ Nobody) × (Ends table → ⊥))
 
 abbrev pub GivesTurn : Table → Turn → Type 0
 GivesTurn table turn = GivesOf table table.places.ready turn

@@ -1,13 +1,14 @@
 //! A worker's door into the room.
-ghost use Rattle.std.specs.Prelude.{◌≡◌, ◌+◌, ◌-◌, ◌<◌, ◌≤◌, ◌++◌, ◌⊎◌, None, if◌then◌else◌, IfOk, IfNone, IfSome, IsOk, OnErr, OnOk, length, min, take};
+ghost use Rattle.std.specs.Prelude.{◌≡◌, ◌+◌, ◌-◌, ◌<◌, ◌≤◌, ◌++◌, ◌⊎◌, ◌↔◌, None, if◌then◌else◌, IfOk, IfNone, IfSome, IsOk, IsSome, IsTrue, OnErr, OnOk, length, min, take};
 ghost use Rattle.std.specs.List.{between};
 ghost use Rattle.jk_io.specs.Told.{HasCause, Rose};
 ghost use Rattle.real_io.specs.Waitless.{IfCame};
-ghost use Rattle.waiting_room.specs.Looks.{IsQuick, SeesAfter, WaitedBetween};
+ghost use Rattle.waiting_room.specs.Looks.{HasCome, IsQuick, SeesAfter, WaitedBetween};
 
 use crate::client::Client;
 use crate::room::Room;
 use crate::stay::{Phase, Stay};
+use crate::table::RoomEnd;
 use jk_io::{Bytes, Door, IoError, NoMemory, Peer};
 use real_io::{
     AtHand, GLANCE_MILLIS, LOOK_MILLIS, Leisure, LinkParts, MAX_HEAD_BYTES, Outbox, StreamEnd,
@@ -33,8 +34,8 @@ pub struct RoomDoor<'r, R: Wait + Eprint> {
     out: u64,
     /// How many milliseconds its last client waited between two requests; none: it was another wait.
     waited: Option<u64>,
-    /// It said that no client comes any more.
-    is_closed: bool,
+    /// The room's word that no client comes any more, once it gave it.
+    ended: Option<RoomEnd>,
     failed: u64,
 }
 
@@ -42,7 +43,7 @@ impl<'r, R: Wait + Eprint> RoomDoor<'r, R> {
     /// A door by which so many clients more come to the room; none: without end. What is written to its clients is held back
     /// in this outbox. No link is out, and no call failed yet.
     pub fn new(rt: &'r R, room: Arc<Room>, outbox: Outbox, clients: Option<u64>) -> RoomDoor<'r, R>
-        ensures { (result.clients ≡ clients) × (result.out ≡ 0) × (result.failed ≡ 0) }
+        ensures { (result.clients ≡ clients) × (result.out ≡ 0) × (result.failed ≡ 0) × (result.ended ≡ None) }
     {
         room.admit(rt, clients);
         RoomDoor {
@@ -53,22 +54,22 @@ impl<'r, R: Wait + Eprint> RoomDoor<'r, R> {
             buffer: None,
             out: 0,
             waited: None,
-            is_closed: false,
+            ended: None,
             failed: 0,
         }
     }
 
     /// Whether it said that no client comes any more.
     pub fn is_closed(&self) -> bool
-        ensures { result ≡ self.now.is_closed }
+        ensures { IsTrue result ↔ IsSome self.now.ended }
     {
-        self.is_closed
+        self.ended.is_some()
     }
 
     fn fail(&mut self) -> IoError
         ensures error { result ≡ IoError.Failed }
         ensures rose { Rose self.old.failed self.new.failed × (self.old.failed ≤ self.new.failed) }
-        ensures same { self.new.out ≡ self.old.out }
+        ensures same { (self.new.out ≡ self.old.out) × (self.new.ended ≡ self.old.ended) }
     {
         self.failed = self.failed.saturating_add(1);
         IoError::Failed
@@ -76,7 +77,7 @@ impl<'r, R: Wait + Eprint> RoomDoor<'r, R> {
 
     // The memory of one client, which is taken before a client is.
     fn seat(&mut self, alloc: Global) -> Result<Seat, NoMemory>
-        ensures { (self.new.out ≡ self.old.out) × (self.new.failed ≡ self.old.failed) }
+        ensures { (self.new.out ≡ self.old.out) × (self.new.failed ≡ self.old.failed) × (self.new.ended ≡ self.old.ended) }
     {
         let outbox = self.outbox.share()?;
         let address = String::with_capacity(alloc, MAX_ADDRESS_BYTES)?;
@@ -132,6 +133,15 @@ struct Ready {
     waited: Option<u64>,
 }
 
+// A client who is handed on to a worker.
+#[derive(Drop)]
+struct Handed {
+    link: TcpLink,
+    peer: Peer,
+    /// How many milliseconds after its last reply its head was there; none: it was another wait.
+    waited: Option<u64>,
+}
+
 impl Seat {
     // The text has room for any address, so this one is written whole.
     fn client(self, ready: Ready, leisure: Option<Leisure>) -> (TcpLink, Peer)
@@ -181,6 +191,10 @@ impl<'r, R: Wait + Eprint> Door for RoomDoor<'r, R> {
     ghost faults = { λ d. d.failed };
 
     fn accept(&mut self, alloc: Global) -> Result<Option<(TcpLink, Peer)>, IoError>
+        // It answers that no client comes only with the word of its room that none does any more.
+        ensures closed { IfOk result (λ answer. IfNone answer (IsSome self.new.ended)) }
+        ensures open { IfOk result (λ answer. IfSome answer (λ _. self.new.ended ≡ self.old.ended)) }
+
         // The link alone of a client who was quick is told whether workers are free.
         ensures quick { IfOk result (λ answer. IfSome answer (λ client. IsQuick self.new.waited ⊎ (client.0.leisure ≡ None))) }
 
@@ -194,16 +208,15 @@ impl<'r, R: Wait + Eprint> Door for RoomDoor<'r, R> {
         let Some(out) = self.out.checked_add(1) else {
             return Err(self.fail());
         };
-        let mut seat = self.seat(alloc)?;
-        match next_ready(self.rt, &self.room, &mut seat.buffer) {
-            Some(ready) => {
+        let seat = self.seat(alloc)?;
+        match next_handed(self.rt, &self.room, seat) {
+            Ok(handed) => {
                 self.out = out;
-                self.waited = ready.waited;
-                let leisure = leisure_for(&self.room, &ready);
-                Ok(Some(seat.client(ready, leisure)))
+                self.waited = handed.waited;
+                Ok(Some((handed.link, handed.peer)))
             }
-            None => {
-                self.is_closed = true;
+            Err(end) => {
+                self.ended = Some(end);
                 Ok(None)
             }
         }
@@ -261,15 +274,47 @@ fn leisure_for(room: &Room, ready: &Ready) -> Option<Leisure>
     }
 }
 
-// The next client whom a worker can serve; none once the room is closed.
-fn next_ready<R: Wait + Eprint>(rt: &R, room: &Room, buffer: &mut Vec<u8>) -> Option<Ready> {
+// The next client whom a worker can serve, in this memory; or the room's word, once it is closed.
+fn next_handed<R: Wait + Eprint>(rt: &R, room: &Room, seat: Seat) -> Result<Handed, RoomEnd>
+    ensures { IfOk result (λ handed. IsQuick handed.waited ⊎ (handed.link.leisure ≡ None)) }
+{
+    let mut seat = seat;
     for _ in rt.forever() {
         let (at, stay, client) = room.next(rt)?;
-        if let Some(ready) = next_look(rt, room, buffer.as_mut_slice(), at, stay, client) {
-            return Some(ready);
+        match hand_on(rt, room, seat, at, stay, client) {
+            Ok(handed) => return Ok(handed),
+            Err(back) => seat = back,
         }
     }
     unreachable!()
+}
+
+// Hands a client on who waited at this place, if a worker can serve it now. Else the memory comes back.
+fn hand_on<R: Wait + Eprint>(
+    rt: &R,
+    room: &Room,
+    seat: Seat,
+    at: usize,
+    stay: Stay,
+    client: Client,
+) -> Result<Handed, Seat>
+    // Its link has its place, and gives first all that had come of it before.
+    ensures seat { IfOk result (λ handed. handed.link.seat ≡ at) }
+    ensures ahead { let have = min (length client.ahead.items) (length seat.buffer.items) in
+        IfOk result (λ handed. HasCome have client.ahead.items handed.link) }
+    ensures waited { IfOk result (λ handed. WaitedBetween stay handed.waited) }
+    ensures quick { IfOk result (λ handed. IsQuick handed.waited ⊎ (handed.link.leisure ≡ None)) }
+{
+    let mut seat = seat;
+    match next_look(rt, room, seat.buffer.as_mut_slice(), at, stay, client) {
+        Some(ready) => {
+            let waited = ready.waited;
+            let leisure = leisure_for(room, &ready);
+            let (link, peer) = seat.client(ready, leisure);
+            Ok(Handed { link, peer, waited })
+        }
+        None => Err(seat),
+    }
 }
 
 // Reads what came of a client, after what was read of it before. One of whose head not all came waits again.

@@ -9,7 +9,8 @@
 //! Source: own rules: the limits of clients, and how a link lingers (docs/DECISIONS.md, "Clients that wait").
 //! Contract: `Places`, which loses no client, gives each again with what it had read ahead, and says which one goes where too
 //! many wait; `Stay::is_over`, which says when one has waited too long; `TcpLink::waits`, clause `looked`, for the 10
-//! milliseconds. Read first: specs/Stays.antt, then src/places.rt.
+//! milliseconds; `RoomDoor::accept`, clause `closed`, for the word without which no door closes.
+//! Read first: specs/Stays.antt, then src/places.rt.
 //! Errors: `IoError`; want of memory alone needs no cause.
 #![tactic(auto)]
 

@@ -6,7 +6,7 @@ ghost use Rattle.waiting_room.specs.Turns.{GivesTurn, KeepsAway};
 use crate::client::Client;
 use crate::control::{Askers, Control};
 use crate::stay::{Limits, Phase, Stay};
-use crate::table::Table;
+use crate::table::{RoomEnd, Table};
 use jk_io::ClientLimits;
 use libc::net::{SHUT_RDWR, shutdown};
 use mio::event::Event;
@@ -85,8 +85,8 @@ pub struct Room {
 pub(crate) enum Turn {
     /// The client of this place.
     Client(usize, Stay, Client),
-    /// The room is closed.
-    Closed,
+    /// The room is closed, by the word of its table.
+    Closed(RoomEnd),
     /// Nobody is ready.
     Nobody,
 }
@@ -169,12 +169,12 @@ impl Room {
         &self.ending
     }
 
-    /// The next client, with the number of its place; none once the room is closed.
-    pub(crate) fn next<R: Wait + Eprint>(&self, rt: &R) -> Option<(usize, Stay, Client)> {
+    /// The next client, with the number of its place; or the table's word, once the room is closed.
+    pub(crate) fn next<R: Wait + Eprint>(&self, rt: &R) -> Result<(usize, Stay, Client), RoomEnd> {
         for _ in rt.forever() {
             match self.lead_or_take(rt) {
-                Turn::Client(at, stay, client) => return Some((at, stay, client)),
-                Turn::Closed => return None,
+                Turn::Client(at, stay, client) => return Ok((at, stay, client)),
+                Turn::Closed(end) => return Err(end),
                 Turn::Nobody => {}
             }
         }
@@ -519,8 +519,10 @@ fn turn_of(table: &mut Table) -> Turn
             table.note_away();
             Turn::Client(at, stay, client)
         }
-        None if table.is_over() || table.is_stopped => Turn::Closed,
-        None => Turn::Nobody,
+        None => match table.end() {
+            Some(end) => Turn::Closed(end),
+            None => Turn::Nobody,
+        },
     }
 }
 

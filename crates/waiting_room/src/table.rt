@@ -1,10 +1,18 @@
 //! The clients of a room, with how many may still come.
-ghost use Rattle.std.specs.Prelude.{◌≡◌, ◌-◌, ◌↔◌, IsTrue, [], false};
+ghost use Rattle.std.specs.Prelude.{◌≡◌, ◌-◌, ◌↔◌, IfSome, IsSome, IsTrue, [], false};
 ghost use Rattle.waiting_room.specs.Counts.{HasLeisure, MayComeIn, admitted, one_fewer, one_more};
+ghost use Rattle.waiting_room.specs.Turns.{Ends};
 
 use crate::client::Client;
 use crate::places::Places;
 use std::alloc::Global;
+
+/// The word of a room's table that no client comes any more. It alone gives it.
+#[derive(Clone, Copy, Debug, PartialEq, Eq)]
+pub struct RoomEnd {
+    /// The room was stopped; else all clients that were to come have gone.
+    is_stopped: bool,
+}
 
 /// The clients of a room.
 #[derive(Drop)]
@@ -77,6 +85,20 @@ impl Table {
         ensures { IsTrue result ↔ ((MayComeIn self.now → ⊥) × (self.now.clients ≡ 0)) }
     {
         !self.is_open() && self.clients == 0
+    }
+
+    /// Its word that no client comes any more, if none does: it was stopped, or no client is there and none may come.
+    pub fn end(&self) -> Option<RoomEnd>
+        ensures ends { IsSome result ↔ Ends self.now }
+        ensures why { IfSome result (λ end. end.is_stopped ≡ self.now.is_stopped) }
+    {
+        if self.is_stopped || self.is_over() {
+            Some(RoomEnd {
+                is_stopped: self.is_stopped,
+            })
+        } else {
+            None
+        }
     }
 
     /// How many clients wait.
