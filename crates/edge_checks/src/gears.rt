@@ -5,7 +5,7 @@ use crate::ports::free_port;
 use anyhow::Result;
 use check_rows::files::print_claim;
 use gear_parts::{GearOrder, World};
-use gear_worlds::{FileShelf, SegmentTurns};
+use gear_worlds::{FileShelf, RealNewFiles, SegmentTurns};
 use jk_io::{
     Bytes, Files, IoError, ListOf, MAX_INPUT_BYTES, NoMemory, Sink, put_decimal, write_all,
 };
@@ -113,12 +113,13 @@ fn keeps_once<S: Shelf, F: Files>(
 fn shelf_here<'r, R: SystemFiles + Wait + Clock>(
     rt: &'r R,
     alloc: Global,
-) -> Result<FileShelf<'r, R>, NoMemory> {
+) -> Result<FileShelf<'r, R, RealNewFiles<'r, R>>, NoMemory> {
     let mut names = ListOf::new(alloc);
     names.push(Bytes::from_slice(alloc, b"app")?)?;
     let dir = Bytes::from_slice(alloc, b".")?;
     let turns = SegmentTurns::new(alloc, 1, 7)?;
-    Ok(FileShelf::new(rt, dir, names, Notices::new(alloc)?, turns))
+    let files = RealNewFiles::new(rt);
+    Ok(FileShelf::new(rt, files, dir, names, Notices::new(alloc)?, turns))
 }
 
 /// Whether a segment goes into a file of its own, which no other one is written over.

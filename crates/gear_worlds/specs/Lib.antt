@@ -1,6 +1,7 @@
 pub mod Descriptors
 pub mod Files
 pub use Rattle.gear_parts.specs.Gears
+pub mod NewFiles
 pub mod Notices
 pub mod Real
 pub mod Worlds

@@ -7,6 +7,7 @@ ghost use Rattle.gear_worlds.specs.RealDoors.{door_clients};
 
 use crate::descriptors::fitting;
 use crate::file_log::FileLog;
+use crate::new_files::RealNewFiles;
 use crate::notice::notice;
 use crate::opening::{
     FIRST_NUMBER, bound_address, listen, log_path, make_and_remove, names_of, open_log, shown,
@@ -280,7 +281,7 @@ impl<
         let names = names_of(alloc, cfg.lbs.as_slice())?;
         let notices = self.notices(alloc, Some(cfg))?;
         let turns = self.turns(alloc, cfg.lbs.len())?;
-        let shelf = FileShelf::new(self.rt, dir.copy()?, names, notices, turns);
+        let shelf = FileShelf::new(self.rt, RealNewFiles::new(self.rt), dir.copy()?, names, notices, turns);
         Ok(RealShelf::Files(shelf))
     }
 

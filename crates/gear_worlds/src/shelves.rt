@@ -1,11 +1,12 @@
 //! Shelves of the real world: files in a directory, or none.
-ghost use Rattle.std.specs.Prelude.{◌≡◌, ◌≤◌, IfErr, IfOk, IsSome, None, true, IsErrOf, OnOk, Some, slice_get, string_bytes};
-ghost use Rattle.std.specs.Fs.{asks_create_new, asks_write};
+ghost use Rattle.std.specs.Prelude.{◌≡◌, ◌≤◌, IfErr, IfOk, IsSome, None, IsErrOf, OnErr, OnOk, Some, slice_get, string_bytes};
 ghost use Rattle.gear_worlds.specs.Files.{IsFileOf};
+ghost use Rattle.gear_worlds.specs.NewFiles.{FilesSegment, MakesFile};
 ghost use Rattle.gear_worlds.specs.Real.{IsWhy, KeepsTrouble, SaysUnkept, SaysUnwritten, shelf_trouble};
 ghost use Rattle.jk_io.specs.Told.{HasCause, Rose};
 
 use crate::journal_files::{SegmentFile, segment_file};
+use crate::new_files::{NewFiles, RealNewFiles};
 use crate::opening::shown;
 use crate::segment_turns::SegmentTurns;
 use crate::tries::{APART_MILLIS, patience};
@@ -15,8 +16,7 @@ use lb_model::Segment;
 use lb_shared::{Admission, Shelf};
 use libc::net::poll;
 use real_io::{Notices, moment};
-use std::fs::{self, OpenOptions};
-use std::io::{self, ErrorKind, Write};
+use std::io::{self, ErrorKind};
 use std::rt::Files;
 use std::sync::Wait;
 use std::time::Clock;
@@ -24,8 +24,10 @@ use std::time::Clock;
 /// A shelf that writes each segment into a new file `DIR/NAME-FIRST.jkj`, after those that come before it, whichever shelf of
 /// the run has them. It tells nothing of what it holds.
 #[derive(Drop)]
-pub struct FileShelf<'r, R: Files> {
+pub struct FileShelf<'r, R, N: NewFiles + Drop> {
     rt: &'r R,
+    /// Where the files are made.
+    files: N,
     dir: Bytes,
     /// The balancers' names, in order.
     names: ListOf<Bytes>,
@@ -38,19 +40,22 @@ pub struct FileShelf<'r, R: Files> {
     failed: u64,
 }
 
-impl<'r, R: Files + Wait + Clock> FileShelf<'r, R> {
+impl<'r, R: Wait + Clock, N: NewFiles + Drop> FileShelf<'r, R, N> {
     /// A shelf in this directory, for the balancers of these names, in order. No file is made or looked at.
     pub fn new(
         rt: &'r R,
+        files: N,
         dir: Bytes,
         names: ListOf<Bytes>,
         notices: Notices,
         turns: SegmentTurns,
-    ) -> FileShelf<'r, R>
-        ensures { (result.dir ≡ dir) × (result.names ≡ names) × (result.trouble ≡ None) × (result.failed ≡ 0) }
+    ) -> FileShelf<'r, R, N>
+        ensures place { (result.files ≡ files) × (result.dir ≡ dir) × (result.names ≡ names) }
+        ensures unfailed { (result.trouble ≡ None) × (result.failed ≡ 0) }
     {
         FileShelf {
             rt,
+            files,
             dir,
             names,
             notices,
@@ -64,7 +69,7 @@ impl<'r, R: Files + Wait + Clock> FileShelf<'r, R> {
     pub fn take_trouble(&mut self) -> Option<Trouble>
         ensures told { result ≡ self.old.trouble }
         ensures taken { self.new.trouble ≡ None }
-        ensures same { self.new.failed ≡ self.old.failed }
+        ensures same { (self.new.failed ≡ self.old.failed) × (self.new.files ≡ self.old.files) }
     {
         self.trouble.take()
     }
@@ -75,7 +80,7 @@ impl<'r, R: Files + Wait + Clock> FileShelf<'r, R> {
         ensures rose { Rose self.old.failed self.new.failed × (self.old.failed ≤ self.new.failed) }
         ensures first { self.old.trouble ≡ None → self.new.trouble ≡ Some trouble }
         ensures kept { IsSome self.old.trouble → self.new.trouble ≡ self.old.trouble }
-        ensures same { (self.new.dir ≡ self.old.dir) × (self.new.names ≡ self.old.names) }
+        ensures same { (self.new.files ≡ self.old.files) × (self.new.dir ≡ self.old.dir) × (self.new.names ≡ self.old.names) }
     {
         if self.trouble.is_none() {
             self.trouble = Some(trouble);
@@ -85,8 +90,11 @@ impl<'r, R: Files + Wait + Clock> FileShelf<'r, R> {
     }
 
     // Writes the file of a segment. A balancer that has no name here has none.
-    fn write(&self, lb: u32, segment: &Segment) -> Result<(), KeepError>
-        ensures { IfErr result (IsWhy (SaysUnkept self.now.dir self.now.names lb segment.now)) }
+    fn write(&mut self, lb: u32, segment: &Segment) -> Result<(), KeepError>
+        ensures why { IfErr result (IsWhy (SaysUnkept self.old.dir self.old.names lb segment.now)) }
+        ensures file { FilesSegment self.old.dir self.old.names lb segment.now (N.made self.old.files) (N.made self.new.files) result }
+        ensures place { (self.new.dir ≡ self.old.dir) × (self.new.names ≡ self.old.names) }
+        ensures same { (self.new.trouble ≡ self.old.trouble) × (self.new.failed ≡ self.old.failed) }
     {
         match self.file_of(lb, segment)? {
             Some(file) => self.write_file(lb, file),
@@ -104,9 +112,13 @@ impl<'r, R: Files + Wait + Clock> FileShelf<'r, R> {
         }
     }
 
-    // Writes a new file whole. That can't be done where its path isn't UTF-8.
-    fn write_file(&self, lb: u32, file: SegmentFile) -> Result<(), KeepError>
-        ensures { IfErr result (IsWhy (SaysUnwritten file.path)) }
+    // Makes a new file. That can't be done where its path isn't UTF-8.
+    fn write_file(&mut self, lb: u32, file: SegmentFile) -> Result<(), KeepError>
+        ensures why { IfErr result (IsWhy (SaysUnwritten file.path)) }
+        ensures ok { OnOk result (MakesFile file.path file.text (N.made self.old.files) (N.made self.new.files)) }
+        ensures err { OnErr result (N.made self.new.files ≡ N.made self.old.files) }
+        ensures place { (self.new.dir ≡ self.old.dir) × (self.new.names ≡ self.old.names) }
+        ensures same { (self.new.trouble ≡ self.old.trouble) × (self.new.failed ≡ self.old.failed) }
     {
         let SegmentFile { path, text } = file;
         let path = text_of(path)?;
@@ -116,7 +128,13 @@ impl<'r, R: Files + Wait + Clock> FileShelf<'r, R> {
             lb,
             until: moment().saturating_add(patience(self.trouble.as_ref())),
         };
-        match write_until(self.rt, trying, path.as_str(), text.as_slice()) {
+        match make_until(
+            self.rt,
+            &mut self.files,
+            trying,
+            path.as_str(),
+            text.as_slice(),
+        ) {
             Ok(()) => Ok(()),
             Err(reason) => {
                 self.notices.given_up(path.as_str(), &reason);
@@ -142,6 +160,7 @@ impl<'r, R: Files + Wait + Clock> FileShelf<'r, R> {
         ensures stands { OnOk result (self.new.failed ≡ self.old.failed) }
         ensures wanted { IsErrOf result IoError.NoMemory → self.new.failed ≡ self.old.failed }
         ensures trouble { KeepsTrouble (SaysUnkept self.old.dir self.old.names lb segment.now) self.old.trouble self.new.trouble result }
+        ensures file { FilesSegment self.old.dir self.old.names lb segment.now (N.made self.old.files) (N.made self.new.files) result }
         ensures same { (self.new.dir ≡ self.old.dir) × (self.new.names ≡ self.old.names) }
     {
         self.turns.wait_until(self.rt, lb, segment.opening.next);
@@ -200,17 +219,21 @@ struct Trying<'a> {
     until: u64,
 }
 
-// Writes a new file. Where that fails it is tried again until a moment, which is said on standard error, and nobody waits for it;
+// Makes a new file. Where that fails it is tried again until a moment, which is said on standard error, and nobody waits for it;
 // not where the file is there already.
-fn write_until<R: Files + Wait>(
+fn make_until<R: Wait, N: NewFiles>(
     rt: &R,
+    files: &mut N,
     trying: Trying<'_>,
     path: &str,
     text: &[u8],
-) -> io::Result<()> {
+) -> io::Result<()>
+    ensures ok { OnOk result (MakesFile path.now text.now (N.made files.old) (N.made files.new)) }
+    ensures err { OnErr result (N.made files.new ≡ N.made files.old) }
+{
     let mut is_said = false;
     for _ in 0..u64::MAX {
-        let Err(reason) = write_new(rt, path, text) else {
+        let Err(reason) = files.make(path, text) else {
             return Ok(());
         };
         if reason.kind() == ErrorKind::AlreadyExists || moment() >= trying.until {
@@ -226,29 +249,10 @@ fn write_until<R: Files + Wait>(
     Err(ErrorKind::TimedOut.into())
 }
 
-// How a file is opened that is to be written: none that is there already is.
-fn only_new() -> OpenOptions
-    ensures { (asks_write result ≡ true) × (asks_create_new result ≡ true) }
-{
-    let mut options = OpenOptions::new();
-    options.write(true);
-    options.create_new(true);
-    options
-}
-
-// Writes a new file. One that isn't whole is taken away.
-fn write_new<R: Files>(rt: &R, path: &str, text: &[u8]) -> io::Result<()> {
-    let mut out = only_new().open(rt, path)?;
-    let written = out.write_all(text);
-    if written.is_err() {
-        let _ = fs::remove_file(rt, path);
-    }
-    written
-}
-
-impl<'r, R: Files + Wait + Clock> Shelf for FileShelf<'r, R> {
+impl<'r, R: Wait + Clock, N: NewFiles + Drop> Shelf for FileShelf<'r, R, N> {
     ghost use Rattle.std.specs.Prelude.{◌≡◌, [], ◌∷◌, IsErrOf, OnErr, OnOk};
     ghost use Rattle.jk_io.specs.Told.{HasCause, appended};
+    ghost use Rattle.gear_worlds.specs.NewFiles.{FilesSegment};
     ghost use Rattle.gear_worlds.specs.Real.{KeepsTrouble, SaysUnkept, untold};
 
     ghost shelved = { λ _. untold };
@@ -256,7 +260,7 @@ impl<'r, R: Files + Wait + Clock> Shelf for FileShelf<'r, R> {
     ghost faults = { λ s. s.failed };
 
     /// It fails for a balancer that has no name here, and where the file can't be made new and written whole. The first such
-    /// trouble is kept.
+    /// trouble is kept. A segment that it keeps is in its own file, which is new; no other is made.
     fn keep(&mut self, lb: u32, segment: Segment) -> Result<(), IoError>
         ensures kept { OnOk result (untold ≡ appended untold ((lb, segment) ∷ [])) }
         ensures refused { OnErr result (untold ≡ untold) }
@@ -264,6 +268,7 @@ impl<'r, R: Files + Wait + Clock> Shelf for FileShelf<'r, R> {
         ensures stands { OnOk result (self.new.failed ≡ self.old.failed) }
         ensures wanted { IsErrOf result IoError.NoMemory → self.new.failed ≡ self.old.failed }
         ensures trouble { KeepsTrouble (SaysUnkept self.old.dir self.old.names lb segment) self.old.trouble self.new.trouble result }
+        ensures file { FilesSegment self.old.dir self.old.names lb segment (N.made self.old.files) (N.made self.new.files) result }
         ensures same { (self.new.dir ≡ self.old.dir) × (self.new.names ≡ self.old.names) }
     {
         self.keep_file(lb, &segment)
@@ -318,7 +323,7 @@ impl Shelf for DropShelf {
 /// The shelf of a real gear: files where a journal is kept, else none.
 #[derive(Drop)]
 pub enum RealShelf<'r, R: Files> {
-    Files(FileShelf<'r, R>),
+    Files(FileShelf<'r, R, RealNewFiles<'r, R>>),
     Dropped(DropShelf),
 }
 
