@@ -8,7 +8,7 @@ FFFF is an absent string, which reads as an empty one.
     python3 vectors/ajp_reply.py > crates/checks/data/wire/reply.txt
 """
 
-from ajp_data import Data, Refused
+from ajp_data import Data, Refused, print_row
 
 NAMES = {
     0xA001: "Content-Type", 0xA002: "Content-Language", 0xA003: "Content-Length", 0xA004: "Date",
@@ -123,8 +123,5 @@ def payloads():
         yield b"\x04\x00\xc8\x00\x00\x00\x00\x01" + code.to_bytes(2, "big") + string(b"v")
 
 
-seen = set()
-for payload in payloads():
-    if payload not in seen:
-        seen.add(payload)
-        print(payload.hex(), decode(payload))
+print("# Payloads of a container, by the AJPv1.3 reference. Made by vectors/ajp_reply.py. The kinds are those of messages.txt.")
+print_row("each payload is read, or refused at its first bad place", ["kind payload"], dict.fromkeys(payloads()), decode)

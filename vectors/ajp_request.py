@@ -9,7 +9,7 @@ without a code is written before any other attribute that stores one, else as th
     python3 vectors/ajp_request.py > crates/checks/data/wire/request.txt
 """
 
-from ajp_data import Data, Refused
+from ajp_data import Data, Refused, print_row, spelled
 
 METHODS = (
     "OPTIONS GET HEAD POST PUT DELETE TRACE PROPFIND PROPPATCH MKCOL COPY MOVE LOCK UNLOCK ACL REPORT VERSION-CONTROL "
@@ -206,7 +206,10 @@ def write_rows():
     yield payload_of(2, attributes=[b"\x0b\xff\xff"])
 
 
-for payload in read_rows():
-    print("read", payload.hex(), shown(payload))
-for payload in write_rows():
-    print("write", payload.hex(), packet(read(payload)).hex())
+def rewritten(payload):
+    return f'"{spelled(packet(read(payload)))}"'
+
+
+print("# Forward Requests, by the AJPv1.3 reference. Made by vectors/ajp_request.py. The kinds are those of requests.txt.")
+print_row("each payload is read, or refused at its first bad place", ["kind payload"], read_rows(), shown)
+print_row("each request is written again", ["kind rewrite", "most 4294967295"], write_rows(), rewritten)

@@ -93,7 +93,7 @@ member node1 node1 1 0 A - 64 ok 0
 member node2 node2 1 0 D - 64 ok 0
 from 0 0 0 -
 start
-part lb"""
+balancer lb"""
 STATED = [
     dict(type="lb", name="lb", method="R", next=9, members=[
         member("a", state="error", load=3), member("b", state="probe", load=6, busy=1, redirect="a"), member("c", state="recover", load=3),
@@ -116,12 +116,12 @@ e 5 0 0 recover 1 done
 e 6 0 0 return 2 failed 0 done
 e 7 0 0 recover 2 done
 e 8 0 0 select - 1 0 0 0 chosen 1 balanced 1
-part lb
+balancer lb
 lb w1 T 0 0 1 60 60 1
 member w1 w1 1 0 S - 64 ok 0
 from 7 0 0 -
 start
-part ajp13"""
+balancer ajp13"""
 ODD = "a<b>&\"c'\\\n%"
 MARKED = [dict(type="lb", name=ODD, method="B", next=0, members=[member(ODD), member("b", redirect=ODD)])]
 ESCAPED = "".join(c if c.isalnum() else f"%{ord(c):02X}" for c in ODD)
@@ -130,7 +130,7 @@ member {ESCAPED} a 1 0 A - 64 ok 0
 member b b 1 0 A 0 64 ok 0
 from 0 0 0 -
 start
-part lb"""
+balancer lb"""
 
 
 def told(words):

@@ -26,15 +26,14 @@
 //! Errors: those of the traits.
 #![tactic(auto)]
 
-pub mod block_judging;
 mod callers;
 pub mod comparing;
 pub mod files;
 pub mod judging;
 pub mod row;
-pub mod rows;
 pub mod telling;
 pub mod texts;
+pub mod told;
 pub mod ways;
 
 pub use callers::{ask, echo, pass_on, quiet_talk, speaks_between_talks};

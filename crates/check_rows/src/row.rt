@@ -28,10 +28,13 @@ fn parts_of(line: &str) -> (&str, &str) {
     line.split_once(' ').unwrap_or((line, ""))
 }
 
-/// Whether a text begins below a line of this first word.
-fn is_head(key: &str) -> bool {
-    match key {
-        "word" | "words" | "file" | "input" | "output" | "part" => true,
+/// Whether a line is of the text that began above it, or of no text at all.
+fn is_of_text(line: &str) -> bool {
+    if line.starts_with('|') || line.starts_with('+') || line.starts_with('#') {
+        return true;
+    }
+    match parts_of(line).0 {
+        "" | "times" | "counted" | "again" => true,
         _ => false,
     }
 }
@@ -65,7 +68,7 @@ fn put_again(out: &mut Bytes, times: &str) -> Result<(), RowError> {
     Ok(())
 }
 
-/// Adds a line of a text; a line of another kind adds nothing.
+/// Adds a line of a text; a comment and an empty line add nothing.
 fn put_line(out: &mut Bytes, line: &str, with: With<'_>) -> Result<(), RowError> {
     if let Some(text) = line.strip_prefix('|') {
         put_text(out, text, with, 0)?;
@@ -84,18 +87,18 @@ fn put_line(out: &mut Bytes, line: &str, with: With<'_>) -> Result<(), RowError>
     }
 }
 
-/// Where the lines of a text stand among those of a row.
+/// Where a text of a row stands.
 #[derive(Clone, Copy)]
 struct Place<'k> {
     key: &'k str,
-    /// How many heads of this word come first.
+    /// How many lines of this key come first.
     before: usize,
     inside: bool,
 }
 
 impl<'k> Place<'k> {
-    /// The place after a head.
-    fn after(self, key: &str) -> Place<'k> {
+    /// The place at a line with this key.
+    fn at(self, key: &str) -> Place<'k> {
         if key != self.key {
             return Place {
                 inside: false,
@@ -110,12 +113,23 @@ impl<'k> Place<'k> {
     }
 }
 
+/// Adds the text in the line of a key itself; in that of a file stands its name.
+fn put_own(out: &mut Bytes, key: &str, rest: &str, with: With<'_>) -> Result<(), RowError> {
+    if key == "file" {
+        return Ok(());
+    }
+    put_text(out, rest, with, 0)
+}
+
 fn put_place(out: &mut Bytes, row: BlockRow<'_>, place: Place<'_>) -> Result<(), RowError> {
     let mut place = place;
-    for line in row.lines.lines() {
-        let key = parts_of(line).0;
-        if is_head(key) {
-            place = place.after(key);
+    for line in row.body().lines() {
+        if !is_of_text(line) {
+            let (key, rest) = parts_of(line);
+            place = place.at(key);
+            if place.inside {
+                put_own(out, key, rest, row.with)?;
+            }
         } else if place.inside {
             put_line(out, line, row.with)?;
         }
@@ -124,9 +138,28 @@ fn put_place(out: &mut Bytes, row: BlockRow<'_>, place: Place<'_>) -> Result<(),
 }
 
 impl<'r> BlockRow<'r> {
+    /// The row of these lines, done as they stand.
+    pub fn new(lines: &'r str) -> BlockRow<'r> {
+        let with = With {
+            first: "",
+            second: "",
+        };
+        BlockRow { lines, with }
+    }
+
+    /// Its name, which stands in its first line.
+    pub fn name(self) -> &'r str {
+        self.lines.lines().next().unwrap_or("")
+    }
+
+    /// Its lines but the first.
+    pub fn body(self) -> &'r str {
+        self.lines.split_once('\n').map_or("", |cut| cut.1)
+    }
+
     /// The rest of the first line that begins with this word.
     pub fn value(self, key: &str) -> Option<&'r str> {
-        for line in self.lines.lines() {
+        for line in self.body().lines() {
             let (first, rest) = parts_of(line);
             if first == key {
                 return Some(rest);
@@ -135,9 +168,14 @@ impl<'r> BlockRow<'r> {
         None
     }
 
+    /// As `value`; `-` where no line begins with this word.
+    pub fn word(self, key: &str) -> &'r str {
+        self.value(key).unwrap_or("-")
+    }
+
     /// How many lines begin with this word.
     pub fn count(self, key: &str) -> usize {
-        self.lines
+        self.body()
             .lines()
             .filter(|line| parts_of(line).0 == key)
             .count()
@@ -163,7 +201,7 @@ impl<'r> BlockRow<'r> {
     }
 
     fn put_numbers(self, alloc: Global, key: &str, out: &mut NumberList) -> Result<(), RowError> {
-        for line in self.lines.lines() {
+        for line in self.body().lines() {
             let (first, rest) = parts_of(line);
             if first == key {
                 let number = self.number_of(alloc, rest)?;
@@ -180,7 +218,7 @@ impl<'r> BlockRow<'r> {
         Ok(numbers)
     }
 
-    /// The text below the line of this word that `before` others of that word precede; empty without such a line.
+    /// The text in and below the line of this word that `before` others of that word precede; empty without such a line.
     pub fn text(self, alloc: Global, key: &str, before: usize) -> Result<Bytes, RowError> {
         let mut text = Bytes::new(alloc);
         let place = Place {
@@ -190,6 +228,26 @@ impl<'r> BlockRow<'r> {
         };
         put_place(&mut text, self, place)?;
         Ok(text)
+    }
+
+    /// As `text`; empty where it can't be read.
+    pub fn bytes_at(self, alloc: Global, key: &str, before: usize) -> Result<Bytes, NoMemory> {
+        match self.text(alloc, key, before) {
+            Ok(text) => Ok(text),
+            Err(RowError::Unreadable) => Ok(Bytes::new(alloc)),
+            Err(RowError::NoMemory) => Err(NoMemory),
+        }
+    }
+
+    /// As `bytes_at`, of the first line of this word.
+    pub fn bytes(self, alloc: Global, key: &str) -> Result<Bytes, NoMemory> {
+        self.bytes_at(alloc, key, 0)
+    }
+
+    /// The number that the first line of this word writes, 0 where it writes none.
+    pub fn amount(self, alloc: Global, key: &str) -> Result<u64, NoMemory> {
+        let digits = self.bytes(alloc, key)?;
+        Ok(parse_decimal(digits.as_slice()).unwrap_or(0))
     }
 
     /// Adds the words of a line `words`, or the one below a line `word`.
@@ -202,7 +260,7 @@ impl<'r> BlockRow<'r> {
 
     fn put_all_words(self, alloc: Global, out: &mut ListOf<Bytes>) -> Result<(), RowError> {
         let mut before = 0usize;
-        for line in self.lines.lines() {
+        for line in self.body().lines() {
             let (key, rest) = parts_of(line);
             if key == "words" {
                 self.put_words(alloc, rest, out)?;
@@ -228,7 +286,7 @@ impl<'r> BlockRow<'r> {
 
     fn put_files(self, alloc: Global, out: &mut FileList) -> Result<(), RowError> {
         let mut before = 0usize;
-        for line in self.lines.lines() {
+        for line in self.body().lines() {
             let (key, name) = parts_of(line);
             if key == "file" {
                 push_file(out, self.named(alloc, name, before)?)?;
@@ -248,7 +306,7 @@ impl<'r> BlockRow<'r> {
     /// The text of the first file of a name; an empty one where there is none.
     pub fn file(self, alloc: Global, name: &str) -> Result<Bytes, RowError> {
         let mut before = 0usize;
-        for line in self.lines.lines() {
+        for line in self.body().lines() {
             let (key, rest) = parts_of(line);
             if key == "file" {
                 if rest == name {

@@ -2,7 +2,8 @@
 ghost use Rattle.std.specs.Prelude.{◌<◌, IfSome};
 
 use crate::row::RowError;
-use jk_io::{Bytes, put_decimal};
+use jk_io::{Bytes, NoMemory, NumberList, parse_decimal, put_decimal};
+use std::alloc::Global;
 
 /// What stands for `\1` and `\2`.
 #[derive(Clone, Copy)]
@@ -85,4 +86,36 @@ pub fn put_text(out: &mut Bytes, text: &str, with: With<'_>, number: u64) -> Res
         }
     }
     Ok(())
+}
+
+/// The bytes that a text spells; none where it has an escape of no form.
+pub fn bytes_of(alloc: Global, text: &str) -> Result<Bytes, NoMemory> {
+    let mut bytes = Bytes::new(alloc);
+    match put_plain(&mut bytes, text) {
+        Ok(()) => Ok(bytes),
+        Err(RowError::Unreadable) => Ok(Bytes::new(alloc)),
+        Err(RowError::NoMemory) => Err(NoMemory),
+    }
+}
+
+/// The number that a text writes, 0 where it writes none.
+pub fn number(text: &str) -> u64 {
+    parse_decimal(text.as_bytes()).unwrap_or(0)
+}
+
+/// The numbers of a list, which has ` & ` between its items; `-` is none.
+pub fn numbers_of(alloc: Global, list: &str) -> Result<NumberList, NoMemory> {
+    let mut numbers = NumberList::new(alloc);
+    if list != "-" {
+        for item in list.split(" & ") {
+            numbers.push(number(item))?;
+        }
+    }
+    Ok(numbers)
+}
+
+/// The two sides of an item with `: ` in it.
+pub fn pair_of(alloc: Global, item: &str) -> Result<(Bytes, Bytes), NoMemory> {
+    let (name, value) = item.split_once(": ").unwrap_or((item, ""));
+    Ok((bytes_of(alloc, name)?, bytes_of(alloc, value)?))
 }

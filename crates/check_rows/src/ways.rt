@@ -1,12 +1,12 @@
-//! How the bytes of a row come and go: the words after what is done.
+//! How the bytes of a row come and go: the words of its line `ways`.
 //!
-//! Without such a word a link gives all bytes in one read, and nothing fails. `whole` says so too. `bytes`: no read goes
+//! Without such a line a link gives all bytes in one read, and nothing fails. `whole` says so too. `bytes`: no read goes
 //! across any place. `each`: the row is done once for each place, and no read goes across that one. `ends`: once with the
 //! last byte apart, once with the last two. `stop`: a read fails after the last byte, so that one read more is a fault.
 //! `read@K`: a read fails after K bytes, `read@K..M`: once for each place from K to before M, `reads`: once for each place
 //! within the bytes. `write@K` and `write@K..M` are of writes.
 
-use crate::rows::number;
+use crate::texts::number;
 use jk_io::{Bytes, MemLink, NoMemory, NumberList};
 use std::alloc::Global;
 
@@ -25,11 +25,6 @@ const WHOLE: Way = Way {
     read: None,
     write: None,
 };
-
-/// The words on ways after the first word of a field.
-pub fn ways_of(field: &str) -> &str {
-    field.split_once(' ').map_or("whole", |cut| cut.1)
-}
 
 /// The first place of `K..M` or `K`, and the place after the last.
 fn range_of(text: &str) -> (u64, u64) {

@@ -2,8 +2,8 @@
 
 use crate::{desks, sites};
 use anyhow::Result;
-use check_lines::judging::{self, judge_file};
-use jk_io::NoMemory;
+use check_rows::judging::{self, judge_file};
+use check_rows::row::{BlockRow, RowError};
 use std::alloc::Global;
 use std::rt::Files;
 use std::sync::Wait;
@@ -27,12 +27,17 @@ static FILES: [(&str, Rows); 2] = [
     ("desk/desks.txt", Rows::Desks),
 ];
 
-impl<'r, R: AllocGlobal + Wait> judging::Subject for Subject<'r, R> {
-    fn judge(&self, _alloc: Global, row: &str, shown: &mut String) -> Result<u64, NoMemory> {
-        match self.rows {
-            Rows::Sites => sites::judge(self.rt, row, shown),
-            Rows::Desks => desks::judge(self.rt, row, shown),
-        }
+impl<'r, R: AllocGlobal + Wait> judging::Area for Subject<'r, R> {
+    fn judge(
+        &self,
+        _alloc: Global,
+        row: BlockRow<'_>,
+        shown: &mut String,
+    ) -> Result<u64, RowError> {
+        Ok(match self.rows {
+            Rows::Sites => sites::judge(self.rt, row.lines, shown)?,
+            Rows::Desks => desks::judge(self.rt, row.lines, shown)?,
+        })
     }
 }
 
@@ -40,7 +45,7 @@ impl<'r, R: AllocGlobal + Wait> judging::Subject for Subject<'r, R> {
 pub fn judge<R: Print + AllocGlobal + Files + Wait>(rt: &R) -> Result<()> {
     for (file, rows) in &FILES {
         let rows = *rows;
-        judge_file(rt, file, &Subject { rt, rows })?;
+        judge_file(rt, file, "lines", &Subject { rt, rows })?;
     }
     Ok(())
 }

@@ -2,8 +2,8 @@
 
 use crate::{books, queries};
 use anyhow::Result;
-use check_lines::judging::{self, judge_files};
-use jk_io::NoMemory;
+use check_rows::judging::{self, judge_file};
+use check_rows::row::{BlockRow, RowError};
 use std::alloc::Global;
 use std::rt::Files;
 
@@ -20,16 +20,19 @@ static FILES: [(&str, Subject); 4] = [
     ("book/queries.txt", Subject::Queries),
 ];
 
-impl judging::Subject for Subject {
-    fn judge(&self, alloc: Global, row: &str, shown: &mut String) -> Result<u64, NoMemory> {
-        match self {
-            Subject::Books => books::judge(alloc, row, shown),
-            Subject::Queries => queries::judge(alloc, row, shown),
-        }
+impl judging::Area for Subject {
+    fn judge(&self, alloc: Global, row: BlockRow<'_>, shown: &mut String) -> Result<u64, RowError> {
+        Ok(match self {
+            Subject::Books => books::judge(alloc, row.lines, shown)?,
+            Subject::Queries => queries::judge(alloc, row.lines, shown)?,
+        })
     }
 }
 
 /// Shows each line that is told otherwise, and how many of each file are told as they say.
 pub fn judge_books<R: Print + AllocGlobal + Files>(rt: &R) -> Result<()> {
-    judge_files(rt, &FILES)
+    for (file, subject) in &FILES {
+        judge_file(rt, file, "lines", subject)?;
+    }
+    Ok(())
 }

@@ -72,7 +72,7 @@ impl BookRow {
         let shown = self.add_part(alloc, type_)?;
         self.lines.clear();
         self.book = None;
-        out.extend(b"part ")?;
+        out.extend(b"balancer ")?;
         out.extend(type_.as_bytes())?;
         Ok(shown)
     }
@@ -98,7 +98,7 @@ impl Teller for BookRow {
         match first_word(asked) {
             ("start", _) => self.start(alloc, out),
             ("resume", _) => self.resume(alloc, out),
-            ("part", type_) => self.show_on_page(alloc, type_, out),
+            ("balancer", type_) => self.show_on_page(alloc, type_, out),
             ("page", way) => self.pages.tell(alloc, way, out),
             _ => self.tell_of_book(alloc, asked, out),
         }

@@ -2,7 +2,7 @@
 //! that comes out otherwise.
 //!
 //! What the rows of crates/checks/data/book and desk want comes from the rules, worked out by hand. How a row is written stands
-//! in `check_lines`, and which lines it has at the head of each file.
+//! in docs/FORMATS.md, and which lines it has at the head of each file.
 #![tactic(auto)]
 
 mod answers;

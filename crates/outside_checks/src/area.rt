@@ -3,7 +3,8 @@
 use crate::{gates, memory, pools, reaches, shared_pools, system};
 use anyhow::Result;
 use check_rows::files::print_claim;
-use check_rows::judging::{self, judge_file};
+use check_rows::row::BlockRow;
+use check_rows::told::{RowTeller, judge_told};
 use check_rows::ways::Way;
 use jk_io::NoMemory;
 use std::alloc::Global;
@@ -17,23 +18,23 @@ struct Outside<'r, R> {
     rt: &'r R,
 }
 
-impl<'r, R: AllocGlobal + Wait + Clock + Files + Net> judging::Area for Outside<'r, R> {
+impl<'r, R: AllocGlobal + Wait + Clock + Files + Net> RowTeller for Outside<'r, R> {
     fn tell(
         &self,
         alloc: Global,
-        fields: &[&str; 8],
+        row: BlockRow<'_>,
         bytes: &[u8],
         _way: Way,
         out: &mut String,
     ) -> Result<(), NoMemory> {
-        match fields[0] {
-            "gate" => gates::tell(self.rt, alloc, fields, out),
-            "pool" => pools::tell(alloc, fields, out),
-            "pools" => shared_pools::tell(self.rt, alloc, fields[1], out),
-            "talks" => reaches::tell(self.rt, alloc, fields, out),
-            "asks" => reaches::tell_asks(alloc, fields[1], bytes, out),
-            "real-files" => system::tell_files(self.rt, alloc, fields[1], out),
-            _ => memory::tell(alloc, fields, out),
+        match row.word("kind") {
+            "gate" => gates::tell(self.rt, alloc, row, out),
+            "pool" => pools::tell(alloc, row, out),
+            "pools" => shared_pools::tell(self.rt, alloc, row.word("acts"), out),
+            "talks" => reaches::tell(self.rt, alloc, row, out),
+            "asks" => reaches::tell_asks(alloc, row.word("fails"), bytes, out),
+            "real-files" => system::tell_files(self.rt, alloc, row.word("names"), out),
+            _ => memory::tell(alloc, row, out),
         }
     }
 }
@@ -47,6 +48,6 @@ fn show_system<R: Print + Input + Clock>(rt: &R) -> Result<()> {
 
 /// Shows each row that comes out otherwise, how many come out as they say, and whether each claim holds.
 pub fn judge<R: Print + Input + AllocGlobal + Wait + Clock + Files + Net>(rt: &R) -> Result<()> {
-    judge_file(rt, "outside/outside.txt", &Outside { rt })?;
+    judge_told(rt, "outside/outside.txt", &Outside { rt })?;
     show_system(rt)
 }

@@ -1,6 +1,7 @@
 //! Two links that take turns by a gate.
 
 use crate::lists::{length_read, link_of};
+use check_rows::row::BlockRow;
 use check_rows::telling::put_shown;
 use jk_io::{Gate, GateLink, MemLink, NoMemory, Sink, Turn};
 use std::alloc::Global;
@@ -14,12 +15,12 @@ const PLACE: u32 = 3;
 pub fn tell<R: Wait + Clock>(
     rt: &R,
     alloc: Global,
-    fields: &[&str; 8],
+    row: BlockRow<'_>,
     out: &mut String,
 ) -> Result<(), NoMemory> {
     let gate = Gate::new(rt);
-    tell_raising(&gate, link_of(alloc, fields[1].as_bytes())?, out)?;
-    tell_waiting(&gate, link_of(alloc, fields[2].as_bytes())?, out)
+    tell_raising(&gate, link_of(alloc, row.word("first").as_bytes())?, out)?;
+    tell_waiting(&gate, link_of(alloc, row.word("second").as_bytes())?, out)
 }
 
 fn tell_raising<R: Wait + Clock>(

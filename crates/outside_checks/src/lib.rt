@@ -3,8 +3,7 @@
 //! clients that wait, at a stop, at members that say nothing, and at two threads that share one pool. Shows each row that comes
 //! out otherwise, and each claim with whether it holds.
 //!
-//! The wanted answer stands at the end of a row, worked out by hand. How a row is written stands in `check_rows::rows`, and
-//! what its fields are at the heads of crates/checks/data/outside/outside.txt, log/logs.txt and log/watches.txt.
+//! What a row wants is worked out by hand. How a row is written stands in docs/FORMATS.md, and which keys it has at the heads of crates/checks/data/outside/outside.txt, log/logs.txt and log/watches.txt.
 #![tactic(auto)]
 
 mod area;

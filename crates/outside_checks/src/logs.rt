@@ -1,8 +1,9 @@
 //! Formats, the lines of requests, and logs that break.
 
 use crate::served::put_rows;
-use check_rows::rows::{bytes_of, number, numbers_of};
+use check_rows::row::BlockRow;
 use check_rows::telling::{put_bytes, put_count, put_shown, put_word};
+use check_rows::texts::{bytes_of, number, numbers_of};
 use jk_io::{Bytes, ListOf, MemLink, NoMemory, Peer};
 use lb_model::ServedList;
 use request_log::{Format, FormatError, LogRows, Times, log_text, read_format, write_log};
@@ -24,9 +25,9 @@ impl Times for Steps {
 }
 
 /// What a row's format comes to.
-pub fn tell(alloc: Global, fields: &[&str; 8], out: &mut String) -> Result<(), NoMemory> {
-    match read_format(alloc, bytes_of(alloc, fields[1])?.as_slice()) {
-        Ok(format) => tell_log(alloc, &format, fields, out),
+pub fn tell(alloc: Global, row: BlockRow<'_>, out: &mut String) -> Result<(), NoMemory> {
+    match read_format(alloc, row.bytes(alloc, "format")?.as_slice()) {
+        Ok(format) => tell_log(alloc, &format, row, out),
         Err(FormatError::BadFormat { at }) => put_count(out, "refused at", at),
         Err(FormatError::NoMemory) => Err(NoMemory),
     }
@@ -35,13 +36,13 @@ pub fn tell(alloc: Global, fields: &[&str; 8], out: &mut String) -> Result<(), N
 fn tell_log(
     alloc: Global,
     format: &Format,
-    fields: &[&str; 8],
+    row: BlockRow<'_>,
     out: &mut String,
 ) -> Result<(), NoMemory> {
-    match fields[0] {
-        "log" => tell_text(alloc, format, fields[2], out),
-        "written" => tell_written(alloc, format, fields, out),
-        _ => tell_seen(alloc, format, fields, out),
+    match row.word("kind") {
+        "log" => tell_text(alloc, format, row.word("rows"), out),
+        "written" => tell_written(alloc, format, row, out),
+        _ => tell_seen(alloc, format, row, out),
     }
 }
 
@@ -69,11 +70,11 @@ fn link_of(alloc: Global, writes: &str) -> Result<MemLink, NoMemory> {
 fn tell_written(
     alloc: Global,
     format: &Format,
-    fields: &[&str; 8],
+    row: BlockRow<'_>,
     out: &mut String,
 ) -> Result<(), NoMemory> {
-    let link = &mut link_of(alloc, fields[2])?;
-    tell_write(alloc, format, fields[3], link, out)
+    let link = &mut link_of(alloc, row.word("writes"))?;
+    tell_write(alloc, format, row.word("rows"), link, out)
 }
 
 fn tell_write(
@@ -119,14 +120,14 @@ fn put_logged(out: &mut String, link: &MemLink, broken: bool) -> Result<(), NoMe
 fn tell_seen(
     alloc: Global,
     format: &Format,
-    fields: &[&str; 8],
+    row: BlockRow<'_>,
     out: &mut String,
 ) -> Result<(), NoMemory> {
-    let (addr, moments) = fields[2].split_once(' ').unwrap_or(("", "-"));
-    let link = link_of(alloc, fields[3])?;
+    let (addr, moments) = row.word("client").split_once(' ').unwrap_or(("", "-"));
+    let link = link_of(alloc, row.word("writes"))?;
     let mut log = LogRows::new(alloc, format, link, times_of(moments));
     greet(alloc, &mut log, addr)?;
-    put_rows(alloc, fields[4], &mut log)?;
+    put_rows(alloc, row.word("rows"), &mut log)?;
     let broken = log.broken().is_some();
     put_logged(out, &log.into_sink(), broken)
 }

@@ -2,20 +2,21 @@
 
 use crate::lists::link_of;
 use check_rows::pass_on;
-use check_rows::rows::{bytes_of, numbers_of};
+use check_rows::row::BlockRow;
 use check_rows::telling::{put_bytes, put_count, put_shown, put_word};
+use check_rows::texts::{bytes_of, numbers_of};
 use jk_io::{
     Bytes, ClientList, Clock, Dial, FileList, Files, MemDial, MemDoor, MemFiles, MemLink,
     MemLinkList, NoMemory, Peer, StepClock,
 };
 use std::alloc::Global;
 
-pub fn tell(alloc: Global, fields: &[&str; 8], out: &mut String) -> Result<(), NoMemory> {
-    match fields[0] {
-        "door" => tell_door(alloc, &mut door_of(alloc, fields[1])?, out),
-        "files" => tell_named(alloc, fields[1], fields[2], out),
-        "clock" => tell_moments(alloc, fields[1], out),
-        _ => tell_dial(alloc, &mut dial_of(alloc, fields[1])?, out),
+pub fn tell(alloc: Global, row: BlockRow<'_>, out: &mut String) -> Result<(), NoMemory> {
+    match row.word("kind") {
+        "door" => tell_door(alloc, &mut door_of(alloc, row.word("fails"))?, out),
+        "files" => tell_named(alloc, row.word("fails"), row.word("names"), out),
+        "clock" => tell_moments(alloc, row.word("moments"), out),
+        _ => tell_dial(alloc, &mut dial_of(alloc, row.word("fails"))?, out),
     }
 }
 

@@ -1,7 +1,8 @@
 //! Which links a pool takes, gives and hands back.
 
-use check_rows::rows::number;
+use check_rows::row::BlockRow;
 use check_rows::telling::put_shown;
+use check_rows::texts::number;
 use conn_pool::{LinkList, Pool};
 use jk_io::NoMemory;
 use std::alloc::Global;
@@ -10,9 +11,9 @@ use std::alloc::Global;
 const MOST_LINKS: usize = 100;
 
 /// What comes of calls of a pool with the size that the row gives.
-pub fn tell(alloc: Global, fields: &[&str; 8], out: &mut String) -> Result<(), NoMemory> {
-    let size = small(fields[1]);
-    tell_acts(alloc, &mut Pool::new(alloc, size)?, fields[2], out)
+pub fn tell(alloc: Global, row: BlockRow<'_>, out: &mut String) -> Result<(), NoMemory> {
+    let size = small(row.word("size"));
+    tell_acts(alloc, &mut Pool::new(alloc, size)?, row.word("acts"), out)
 }
 
 /// The number that a word writes, 0 where it is none of 32 bits.

@@ -7,8 +7,9 @@ use crate::idle_reach::{IdleReach, TwofoldReach};
 use crate::lists::{link_of, one_balancer};
 use crate::pools::small;
 use check_rows::ask;
-use check_rows::rows::numbers_of;
+use check_rows::row::BlockRow;
 use check_rows::telling::{put_bytes, put_count, put_shown, put_word};
+use check_rows::texts::numbers_of;
 use conn_pool::{Idle, MemTape, PooledReach, Pools};
 use jk_io::{
     Bytes, Filled, IoError, ListOf, MemLink, MemLinkList, MemReach, NoMemory, NumberList, Reach,
@@ -24,12 +25,12 @@ const PONGS: &[u8] = b"pongpongpongpong";
 pub fn tell<R: Wait>(
     rt: &R,
     alloc: Global,
-    fields: &[&str; 8],
+    row: BlockRow<'_>,
     out: &mut String,
 ) -> Result<(), NoMemory> {
-    let size = small(fields[1]);
+    let size = small(row.word("size"));
     let sizes = one_balancer(alloc, &[size, size])?;
-    tell_over(alloc, &Pools::new(rt, alloc, &sizes)?, fields, out)
+    tell_over(alloc, &Pools::new(rt, alloc, &sizes)?, row, out)
 }
 
 /// A link whose reads fail after as many bytes as in `reads`, and whose writes after as many as in `writes`.
@@ -38,35 +39,39 @@ fn failing_link(alloc: Global, reads: NumberList, writes: &str) -> Result<MemLin
     MemLink::failing_at(alloc, Bytes::from_slice(alloc, PONGS)?, reads, writes)
 }
 
-fn first_link(alloc: Global, fields: &[&str; 8]) -> Result<MemLink, NoMemory> {
-    failing_link(alloc, numbers_of(alloc, fields[2])?, fields[3])
+fn first_link(alloc: Global, row: BlockRow<'_>) -> Result<MemLink, NoMemory> {
+    failing_link(
+        alloc,
+        numbers_of(alloc, row.word("reads"))?,
+        row.word("writes"),
+    )
 }
 
 /// Two links with the same bytes to come, the first of which fails as the row tells.
-fn two_links(alloc: Global, fields: &[&str; 8]) -> Result<MemLinkList, NoMemory> {
+fn two_links(alloc: Global, row: BlockRow<'_>) -> Result<MemLinkList, NoMemory> {
     let mut links = MemLinkList::new(alloc);
-    links.push(first_link(alloc, fields)?)?;
+    links.push(first_link(alloc, row)?)?;
     links.push(link_of(alloc, PONGS)?)?;
     Ok(links)
 }
 
-fn dial_of(alloc: Global, fields: &[&str; 8]) -> Result<CountedDial, NoMemory> {
-    let failing = numbers_of(alloc, fields[4])?;
-    Ok(CountedDial::new(two_links(alloc, fields)?, failing))
+fn dial_of(alloc: Global, row: BlockRow<'_>) -> Result<CountedDial, NoMemory> {
+    let failing = numbers_of(alloc, row.word("dials"))?;
+    Ok(CountedDial::new(two_links(alloc, row)?, failing))
 }
 
 fn tell_over<R: Wait>(
     alloc: Global,
     pools: &Pools<'_, Idle<MemLink>, R>,
-    fields: &[&str; 8],
+    row: BlockRow<'_>,
     out: &mut String,
 ) -> Result<(), NoMemory>
     requires { HasMember pools.now 0 1 }
 {
-    let dial = dial_of(alloc, fields)?;
+    let dial = dial_of(alloc, row)?;
     let reach = PooledReach::new(pools, dial, MemTape::new(alloc));
     let mut twofold = TwofoldReach { reach };
-    let told = tell_talks(alloc, &mut twofold, fields[5], out);
+    let told = tell_talks(alloc, &mut twofold, row.word("acts"), out);
     let TwofoldReach { reach } = twofold;
     let (dial, tape) = reach.into_parts();
     tell_noted(told, dial.asked, tape.talks(), out)

@@ -1,6 +1,6 @@
 //! Answered requests, as rows write them.
 
-use check_rows::rows::{bytes_of, number};
+use check_rows::texts::{bytes_of, number};
 use jk_io::{Bytes, NoMemory};
 use lb_model::{Asked, RowSink, Served};
 use std::alloc::Global;

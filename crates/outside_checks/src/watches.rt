@@ -2,8 +2,9 @@
 ghost use Rattle.conn_pool.specs.Idle.{HasMember};
 
 use crate::lists::one_balancer;
-use check_rows::rows::{bytes_of, number};
+use check_rows::row::BlockRow;
 use check_rows::telling::{put_bytes, put_count};
+use check_rows::texts::{bytes_of, number};
 use conn_pool::{Idle, LinkList, NoTape, PooledReach, Pools, WatchReport, judge};
 use jk_io::{Bytes, ListOf, MemDial, MemLink, MemLinkList, NoMemory, Reach, TalkAsked};
 use std::alloc::Global;
@@ -111,14 +112,14 @@ fn judge_links(
 pub fn tell<R: Wait>(
     rt: &R,
     alloc: Global,
-    fields: &[&str; 8],
+    row: BlockRow<'_>,
     out: &mut String,
 ) -> Result<(), NoMemory> {
-    let limit = u32::try_from(number(fields[1])).unwrap_or(0);
-    let ping = if fields[2] == "ping" {
+    let limit = u32::try_from(row.amount(alloc, "limit")?).unwrap_or(0);
+    let ping = if row.word("ping") == "ping" {
         Some(1000)
     } else {
         None
     };
-    judge_links(out, links_of(rt, alloc, fields[3])?, limit, ping)
+    judge_links(out, links_of(rt, alloc, row.word("links"))?, limit, ping)
 }

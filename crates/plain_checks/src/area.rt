@@ -2,7 +2,7 @@
 
 use crate::{plain, values};
 use anyhow::Result;
-use check_rows::block_judging::{BlockArea, judge_files};
+use check_rows::judging::{Area, count_row, judge_file};
 use check_rows::row::{BlockRow, RowError};
 use std::alloc::Global;
 use std::rt::Files;
@@ -11,12 +11,13 @@ use std::rt::Files;
 #[derive(Clone, Copy)]
 struct Commands;
 
-impl BlockArea for Commands {
-    fn holds(&self, alloc: Global, row: BlockRow<'_>) -> Result<bool, RowError> {
-        match row.value("kind") {
-            None => plain::holds(alloc, row),
-            Some(kind) => values::holds(alloc, row, kind),
-        }
+impl Area for Commands {
+    fn judge(&self, alloc: Global, row: BlockRow<'_>, shown: &mut String) -> Result<u64, RowError> {
+        let holds = match row.value("kind") {
+            None => plain::holds(alloc, row)?,
+            Some(kind) => values::holds(alloc, row, kind)?,
+        };
+        Ok(count_row(row, holds, "something else", shown)?)
     }
 }
 
@@ -41,5 +42,8 @@ static FILES: [&str; 15] = [
 
 /// Shows each row that comes out otherwise, and how many of each file come out as they say.
 pub fn judge<R: Print + AllocGlobal + Files>(rt: &R) -> Result<()> {
-    judge_files(rt, &FILES, &Commands)
+    for file in &FILES {
+        judge_file(rt, file, "rows", &Commands)?;
+    }
+    Ok(())
 }

@@ -1,20 +1,26 @@
 //! Talks of a connector with the container, as the container serves them.
 
 use ajp_container::{AppConfig, serve_ajp};
-use check_rows::rows::bytes_of;
+use check_rows::row::BlockRow;
 use check_rows::telling::{put_bytes, put_faults, put_shown};
+use check_rows::texts::bytes_of;
 use check_rows::ways::{Way, link_of};
 use jk_io::{Bytes, MemLink, NoMemory};
 use std::alloc::Global;
 
 pub fn tell(
     alloc: Global,
-    fields: &[&str; 8],
+    row: BlockRow<'_>,
     bytes: &[u8],
     way: Way,
     out: &mut String,
 ) -> Result<(), NoMemory> {
-    serve(alloc, fields[1], &mut link_of(alloc, bytes, way)?, out)
+    serve(
+        alloc,
+        row.word("secret"),
+        &mut link_of(alloc, bytes, way)?,
+        out,
+    )
 }
 
 fn serve(

@@ -6,8 +6,9 @@ ghost use Rattle.site_mounts.specs.Sites.{stands_in};
 use crate::sites::{config_of, map_of};
 use crate::start::desk_of;
 use crate::told::{put_awaited, put_balancer, put_rows, put_talks};
-use check_rows::rows::{bytes_of, number};
+use check_rows::row::BlockRow;
 use check_rows::telling::{part, put_bytes, put_faults, put_word};
+use check_rows::texts::number;
 use check_rows::ways::{Way, link_of, writing};
 use client_session::{SessionEnd, SessionSite, SessionStop, Surroundings, serve_session};
 use http_front::Inbox;
@@ -24,8 +25,8 @@ use std::fmt::Write;
 
 /// A row, and how its last bytes come: those of the client, or those of the first link.
 #[derive(Clone, Copy)]
-struct Row<'t> {
-    fields: &'t [&'t str; 8],
+struct SessionRow<'t> {
+    row: BlockRow<'t>,
     bytes: &'t [u8],
     way: Way,
     of_member: bool,
@@ -34,7 +35,7 @@ struct Row<'t> {
 /// A row and its site, whose map stands over its balancers.
 #[derive(Clone, Copy)]
 struct Case<'t> {
-    row: Row<'t>,
+    row: SessionRow<'t>,
     config: &'t Config,
     map: &'t UriMap,
     ghost stands: { stands_in config.now map.now ≡ true },
@@ -57,17 +58,17 @@ struct CaseLeft<'t> {
     ghost sizes: { desk.sizes ≡ sizes_in case.config.now.lbs },
 }
 
-/// A session whose client's bytes stand last in the row.
+/// A session whose client's bytes come in the row's ways.
 pub fn tell_client(
     alloc: Global,
-    fields: &[&str; 8],
+    row: BlockRow<'_>,
     bytes: &[u8],
     way: Way,
     out: &mut String,
 ) -> Result<(), NoMemory> {
     let of_member = false;
-    let row = Row {
-        fields,
+    let row = SessionRow {
+        row,
         bytes,
         way,
         of_member,
@@ -75,27 +76,22 @@ pub fn tell_client(
     tell(alloc, row, out)
 }
 
-/// A session whose first link's bytes stand last in the row.
+/// A session whose first link's bytes come in the row's ways.
 pub fn tell_member(
     alloc: Global,
-    fields: &[&str; 8],
+    row: BlockRow<'_>,
     bytes: &[u8],
     way: Way,
     out: &mut String,
 ) -> Result<(), NoMemory> {
     let of_member = true;
-    let row = Row {
-        fields,
+    let row = SessionRow {
+        row,
         bytes,
         way,
         of_member,
     };
     tell(alloc, row, out)
-}
-
-/// What the client of a row sends whose last bytes are those of the first link, and what the links after it have to come.
-fn sides_of(field: &str) -> (&str, &str) {
-    field.split_once(" & ").unwrap_or((field, "-"))
 }
 
 /// The number after this word of a row; None where the word isn't there.
@@ -113,72 +109,60 @@ fn numbers_of(alloc: Global, number: Option<u64>) -> Result<NumberList, NoMemory
     Ok(numbers)
 }
 
-/// A client with these bytes to come; if `write` is given, one write to it fails after `write` bytes were taken.
-fn client_with(alloc: Global, text: &str, write: Option<u64>) -> Result<MemLink, NoMemory> {
-    link_of(alloc, bytes_of(alloc, text)?.as_slice(), writing(write))
+/// A client with the bytes of a row to come, whose write fails where the row says so.
+fn client_with(alloc: Global, row: BlockRow<'_>) -> Result<MemLink, NoMemory> {
+    let way = writing(said(row.word("words"), "client="));
+    link_of(alloc, row.bytes(alloc, "client")?.as_slice(), way)
 }
 
 /// What the client of a row sends, and what goes to it.
-fn line_of(alloc: Global, row: Row<'_>) -> Result<MemLink, NoMemory> {
+fn line_of(alloc: Global, row: SessionRow<'_>) -> Result<MemLink, NoMemory> {
     if row.of_member {
-        let (text, _) = sides_of(row.fields[4]);
-        client_with(alloc, text, said(row.fields[1], "client="))
+        client_with(alloc, row.row)
     } else {
         link_of(alloc, row.bytes, row.way)
     }
 }
 
 /// The client of a row, which waits and fails to take a flush where the row says so.
-fn client_of(alloc: Global, row: Row<'_>) -> Result<PatientLink, NoMemory> {
-    let words = row.fields[1];
+fn client_of(alloc: Global, row: SessionRow<'_>) -> Result<PatientLink, NoMemory> {
+    let words = row.row.word("words");
     let pauses = numbers_of(alloc, said(words, "waits="))?;
     let unflushed = numbers_of(alloc, said(words, "unflushed="))?;
     Ok(PatientLink::new(alloc, line_of(alloc, row)?, pauses, unflushed))
 }
 
-fn link_with(alloc: Global, text: &str) -> Result<MemLink, NoMemory> {
-    Ok(MemLink::new(alloc, bytes_of(alloc, text)?, NumberList::new(alloc)))
-}
-
-fn push_bytes(alloc: Global, links: &mut MemLinkList, row: Row<'_>) -> Result<(), NoMemory> {
+fn push_bytes(alloc: Global, links: &mut MemLinkList, row: SessionRow<'_>) -> Result<(), NoMemory> {
     links.push(link_of(alloc, row.bytes, row.way)?)?;
     Ok(())
 }
 
-fn push_text(alloc: Global, links: &mut MemLinkList, text: &str) -> Result<(), NoMemory> {
-    links.push(link_with(alloc, text)?)?;
+fn push_link(alloc: Global, links: &mut MemLinkList, bytes: Bytes) -> Result<(), NoMemory> {
+    links.push(MemLink::new(alloc, bytes, NumberList::new(alloc)))?;
     Ok(())
 }
 
-/// Adds links with these bytes to come, in the order in which they are dialled.
-fn push_list(alloc: Global, links: &mut MemLinkList, list: &str) -> Result<(), NoMemory> {
-    if list != "-" {
-        for item in list.split(" & ") {
-            push_text(alloc, links, item)?;
-        }
+/// Adds the links that have a line of their own, in the order in which they are dialled.
+fn push_links(alloc: Global, links: &mut MemLinkList, row: BlockRow<'_>) -> Result<(), NoMemory> {
+    for place in 0..row.count("link") {
+        push_link(alloc, links, row.bytes_at(alloc, "link", place)?)?;
     }
     Ok(())
-}
-
-fn push_links(alloc: Global, links: &mut MemLinkList, row: Row<'_>) -> Result<(), NoMemory> {
-    if row.of_member {
-        push_bytes(alloc, links, row)?;
-        push_list(alloc, links, sides_of(row.fields[4]).1)
-    } else {
-        push_list(alloc, links, row.fields[4])
-    }
 }
 
 /// The links of a row.
-fn links_of(alloc: Global, row: Row<'_>) -> Result<MemLinkList, NoMemory> {
+fn links_of(alloc: Global, row: SessionRow<'_>) -> Result<MemLinkList, NoMemory> {
     let mut links = MemLinkList::new(alloc);
-    push_links(alloc, &mut links, row)?;
+    if row.of_member {
+        push_bytes(alloc, &mut links, row)?;
+    }
+    push_links(alloc, &mut links, row.row)?;
     Ok(links)
 }
 
 /// What comes out of a row's session.
-fn tell(alloc: Global, row: Row<'_>, out: &mut String) -> Result<(), NoMemory> {
-    match config_of(alloc, row.fields[2])? {
+fn tell(alloc: Global, row: SessionRow<'_>, out: &mut String) -> Result<(), NoMemory> {
+    match config_of(alloc, &row.row.bytes(alloc, "workers")?)? {
         Some(config) => tell_site(alloc, row, &config, out),
         None => put_word(out, "workers refused"),
     }
@@ -186,11 +170,11 @@ fn tell(alloc: Global, row: Row<'_>, out: &mut String) -> Result<(), NoMemory> {
 
 fn tell_site(
     alloc: Global,
-    row: Row<'_>,
+    row: SessionRow<'_>,
     config: &Config,
     out: &mut String,
 ) -> Result<(), NoMemory> {
-    match map_of(alloc, row.fields[3], config)? {
+    match map_of(alloc, &row.row.bytes(alloc, "map")?, config)? {
         Some(map) => tell_mapped(alloc, row, config, &map, out),
         None => put_word(out, "map refused"),
     }
@@ -198,7 +182,7 @@ fn tell_site(
 
 fn tell_mapped(
     alloc: Global,
-    row: Row<'_>,
+    row: SessionRow<'_>,
     config: &Config,
     map: &UriMap,
     out: &mut String,
@@ -209,7 +193,7 @@ fn tell_mapped(
 }
 
 fn tell_case(alloc: Global, case: Case<'_>, out: &mut String) -> Result<(), NoMemory> {
-    let first = said(case.row.fields[1], "first=").unwrap_or(0);
+    let first = said(case.row.row.word("words"), "first=").unwrap_or(0);
     let desk = desk_of(alloc, case.config.lbs.as_slice(), first)?;
     let mut client = client_of(alloc, case.row)?;
     tell_over(alloc, CaseStart { case, desk }, &mut client, out)
@@ -220,7 +204,7 @@ fn reach_of(alloc: Global, case: &Case<'_>) -> Result<MemReach, NoMemory>
     ensures idle { IfOk result (λ reach. reach.book.begun ≡ None) }
 {
     let links = links_of(alloc, case.row)?;
-    let failing = numbers_of(alloc, said(case.row.fields[1], "dial="))?;
+    let failing = numbers_of(alloc, said(case.row.row.word("words"), "dial="))?;
     let sizes = member_counts(alloc, case.config.lbs.as_slice())?;
     Ok(MemReach::new(alloc, links, sizes, failing))
 }
@@ -294,7 +278,7 @@ fn serve_into<'t>(
     let CaseStart { case, mut desk } = start;
     let mut reach = reach_of(alloc, &case)?;
     let peer = local(alloc)?;
-    let at = said(case.row.fields[1], "dated=");
+    let at = said(case.row.row.word("words"), "dated=");
     let mut clock = StepClock::new(numbers_of(alloc, at)?);
     let mut inbox = Inbox::new(alloc)?;
     let site = SessionSite {
@@ -341,7 +325,7 @@ fn put_rest(
     put_bytes(out, client.link().sent())?;
     put_faults(out, client.link().faults())?;
     put_balancers(case, desk, out)?;
-    if case.row.fields[1].contains("awaits") {
+    if case.row.row.word("words").contains("awaits") {
         put_awaited("client", client, out)?;
     }
     Ok(())

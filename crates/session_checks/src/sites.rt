@@ -2,16 +2,14 @@
 ghost use Rattle.std.specs.Prelude.{◌≡◌, true, IfOk, IfSome};
 ghost use Rattle.site_mounts.specs.Sites.{stands_in};
 
-use check_rows::rows::bytes_of;
-use jk_io::{MAX_INPUT_BYTES, NoMemory};
+use jk_io::{Bytes, MAX_INPUT_BYTES, NoMemory};
 use site_config::Config;
 use site_mounts::{MapError, UriMap, read_map};
 use site_workers::{PropsError, read_workers};
 use std::alloc::Global;
 
 /// The configuration of a workers.properties; None where it is refused.
-pub fn config_of(alloc: Global, text: &str) -> Result<Option<Config>, NoMemory> {
-    let text = bytes_of(alloc, text)?;
+pub fn config_of(alloc: Global, text: &Bytes) -> Result<Option<Config>, NoMemory> {
     if text.len() > MAX_INPUT_BYTES {
         return Ok(None);
     }
@@ -23,10 +21,9 @@ pub fn config_of(alloc: Global, text: &str) -> Result<Option<Config>, NoMemory> 
 }
 
 /// The map of a uriworkermap.properties; None where it is refused.
-pub fn map_of(alloc: Global, text: &str, config: &Config) -> Result<Option<UriMap>, NoMemory>
+pub fn map_of(alloc: Global, text: &Bytes, config: &Config) -> Result<Option<UriMap>, NoMemory>
     ensures { IfOk result (λ map. IfSome map (λ m. stands_in config.now m ≡ true)) }
 {
-    let text = bytes_of(alloc, text)?;
     if text.len() > MAX_INPUT_BYTES {
         return Ok(None);
     }

@@ -5,8 +5,9 @@ ghost use Rattle.http_front.specs.State.{taken_of, failed_of};
 
 use crate::told::put_awaited;
 use ajp_talk::{TalkLimits, TalkPlan, talk};
-use check_rows::rows::{bytes_of, number};
+use check_rows::row::BlockRow;
 use check_rows::telling::{put_bytes, put_count, put_shown, put_word};
+use check_rows::texts::number;
 use check_rows::ways::{Way, link_of, writing};
 use http_front::{BodyFault, BodyIn, BodyPlan, Inbox};
 use jk_io::{Bytes, NoMemory, NumberList, PatientLink};
@@ -34,7 +35,7 @@ struct Reading {
 
 pub fn tell(
     alloc: Global,
-    fields: &[&str; 8],
+    row: BlockRow<'_>,
     bytes: &[u8],
     way: Way,
     out: &mut String,
@@ -43,7 +44,7 @@ pub fn tell(
     let never = NumberList::new(alloc);
     tell_line(
         alloc,
-        fields,
+        row,
         &mut PatientLink::new(alloc, line, NumberList::new(alloc), never),
         out,
     )
@@ -51,31 +52,25 @@ pub fn tell(
 
 fn tell_line(
     alloc: Global,
-    fields: &[&str; 8],
+    row: BlockRow<'_>,
     line: &mut PatientLink,
     out: &mut String,
 ) -> Result<(), NoMemory> {
-    tell_between(
-        alloc,
-        fields,
-        line,
-        &mut client_of(alloc, fields[3], fields[1])?,
-        out,
-    )
+    tell_between(alloc, row, line, &mut client_of(alloc, row)?, out)
 }
 
 fn tell_between(
     alloc: Global,
-    fields: &[&str; 8],
+    row: BlockRow<'_>,
     line: &mut PatientLink,
     client: &mut PatientLink,
     out: &mut String,
 ) -> Result<(), NoMemory> {
-    let words = fields[1];
+    let words = row.word("words");
     tell_talk(
         alloc,
         words,
-        &mut reading_of(alloc, fields[2])?,
+        &mut reading_of(alloc, row.word("plan"))?,
         line,
         client,
         out,
@@ -108,9 +103,10 @@ fn reading_of(alloc: Global, plan: &str) -> Result<Reading, NoMemory>
 }
 
 /// A client with these bytes to come, whose write or first flush fails where the plan says so.
-fn client_of(alloc: Global, text: &str, plan: &str) -> Result<PatientLink, NoMemory> {
+fn client_of(alloc: Global, row: BlockRow<'_>) -> Result<PatientLink, NoMemory> {
+    let plan = row.word("words");
     let way = writing(said(plan, "client="));
-    let link = link_of(alloc, bytes_of(alloc, text)?.as_slice(), way)?;
+    let link = link_of(alloc, row.bytes(alloc, "client")?.as_slice(), way)?;
     let mut failing = NumberList::new(alloc);
     if plan.contains("unflushed") {
         failing.push(0)?;

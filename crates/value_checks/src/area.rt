@@ -2,8 +2,8 @@
 
 use crate::{indexes, journals, openings, values, verdicts};
 use anyhow::Result;
-use check_lines::judging::{self, judge_files};
-use jk_io::NoMemory;
+use check_rows::judging::{self, judge_file};
+use check_rows::row::{BlockRow, RowError};
 use std::alloc::Global;
 use std::rt::Files;
 
@@ -24,19 +24,23 @@ static FILES: [(&str, Subject); 5] = [
     ("value/verdicts.txt", Subject::Verdicts),
 ];
 
-impl judging::Subject for Subject {
-    fn judge(&self, alloc: Global, row: &str, shown: &mut String) -> Result<u64, NoMemory> {
-        match self {
-            Subject::Values => values::judge(alloc, row, shown),
-            Subject::Indexes => indexes::judge(alloc, row, shown),
-            Subject::Openings => openings::judge(alloc, row, shown),
-            Subject::Journals => journals::judge(alloc, row, shown),
-            Subject::Verdicts => verdicts::judge(alloc, row, shown),
-        }
+impl judging::Area for Subject {
+    fn judge(&self, alloc: Global, row: BlockRow<'_>, shown: &mut String) -> Result<u64, RowError> {
+        let lines = row.lines;
+        Ok(match self {
+            Subject::Values => values::judge(alloc, lines, shown)?,
+            Subject::Indexes => indexes::judge(alloc, lines, shown)?,
+            Subject::Openings => openings::judge(alloc, lines, shown)?,
+            Subject::Journals => journals::judge(alloc, row, shown)?,
+            Subject::Verdicts => verdicts::judge(alloc, row, shown)?,
+        })
     }
 }
 
 /// Shows each line that is told otherwise, and how many of each file are told as they say.
 pub fn judge<R: Print + AllocGlobal + Files>(rt: &R) -> Result<()> {
-    judge_files(rt, &FILES)
+    for (file, subject) in &FILES {
+        judge_file(rt, file, "lines", subject)?;
+    }
+    Ok(())
 }

@@ -1,16 +1,17 @@
 //! Rows of journals' texts: what is read of one, and where it can't be read.
 
 use check_lines::judging::{Teller, judge_lines};
-use check_lines::texts::{first_word, put_line, put_number, say};
-use check_rows::rows::bytes_of;
+use check_lines::texts::{first_word, put_number};
+use check_rows::row::BlockRow;
+use check_rows::texts::bytes_of;
 use jk_io::{Bytes, MAX_INPUT_BYTES, NoMemory};
 use journal_text::{SegmentList, TextError, read_segments, write_segment};
 use std::alloc::Global;
 
-/// A row of texts as far as it is taken.
+/// A row of texts.
 #[derive(Drop)]
 struct TextRow {
-    /// The lines that each text begins with.
+    /// What each text begins with.
     front: Bytes,
 }
 
@@ -84,10 +85,6 @@ fn tell_after(
 
 impl Teller for TextRow {
     fn tell(&mut self, alloc: Global, asked: &str, out: &mut Bytes) -> Result<bool, NoMemory> {
-        if let Some(line) = asked.strip_prefix('|') {
-            put_line(&mut self.front, line)?;
-            return say(out, asked);
-        }
         match first_word(asked) {
             ("read", text) => tell_after(alloc, &self.front, text, out),
             _ => Ok(false),
@@ -95,7 +92,7 @@ impl Teller for TextRow {
     }
 }
 
-pub fn judge(alloc: Global, row: &str, shown: &mut String) -> Result<u64, NoMemory> {
-    let front = Bytes::new(alloc);
-    judge_lines(alloc, &mut TextRow { front }, row, shown)
+pub fn judge(alloc: Global, row: BlockRow<'_>, shown: &mut String) -> Result<u64, NoMemory> {
+    let front = row.bytes(alloc, "input")?;
+    judge_lines(alloc, &mut TextRow { front }, row.lines, shown)
 }

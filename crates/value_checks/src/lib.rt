@@ -2,7 +2,7 @@
 //! shows each line that comes out otherwise.
 //!
 //! What the rows of crates/checks/data/value want comes from the rules, worked out by hand. How a row is written stands in
-//! `check_lines`, and which lines it has at the head of each file.
+//! docs/FORMATS.md, and which lines it has at the head of each file.
 #![tactic(auto)]
 
 mod area;

@@ -165,7 +165,7 @@ impl Teller for OpeningRow {
             return say(out, asked);
         }
         match first_word(asked) {
-            ("with", words) => tell_judged(alloc, self.lines.as_slice(), words, out),
+            ("but", words) => tell_judged(alloc, self.lines.as_slice(), words, out),
             _ => Ok(false),
         }
     }

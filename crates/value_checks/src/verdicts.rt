@@ -3,8 +3,9 @@ ghost use Rattle.std.specs.Prelude.{◌≤◌, length};
 ghost use Rattle.jk_io.specs.declared.whole_input.TheConstants.{MAX_INPUT_BYTES};
 
 use check_lines::judging::{Teller, judge_lines};
-use check_lines::texts::{first_word, long, put_line, put_number, say};
-use check_rows::rows::bytes_of;
+use check_lines::texts::{first_word, long, put_line, put_number};
+use check_rows::row::BlockRow;
+use check_rows::texts::bytes_of;
 use jk_io::{Bytes, MAX_INPUT_BYTES, NoMemory};
 use journal_text::TextError;
 use journal_verdict::{Verdict, check_journal, put_verdict};
@@ -14,7 +15,7 @@ use std::fmt::Write;
 /// A row of texts as far as it is taken.
 #[derive(Drop)]
 struct VerdictRow {
-    /// The lines that each text begins with.
+    /// What each text begins with.
     front: Bytes,
     /// Those of its changes that left it good, a line each.
     good: String,
@@ -126,7 +127,7 @@ fn tell_changed(
 }
 
 impl VerdictRow {
-    fn tell_with(&mut self, alloc: Global, words: &str, out: &mut Bytes) -> Result<bool, NoMemory> {
+    fn tell_but(&mut self, alloc: Global, words: &str, out: &mut Bytes) -> Result<bool, NoMemory> {
         let Some(change) = change_of(words) else {
             return Ok(false);
         };
@@ -139,28 +140,24 @@ impl VerdictRow {
 
 impl Teller for VerdictRow {
     fn tell(&mut self, alloc: Global, asked: &str, out: &mut Bytes) -> Result<bool, NoMemory> {
-        if let Some(line) = asked.strip_prefix('|') {
-            put_line(&mut self.front, line)?;
-            return say(out, asked);
-        }
         match first_word(asked) {
             ("check", text) => {
                 let _good = tell_after(alloc, &self.front, text, out)?;
                 Ok(true)
             }
-            ("with", words) => self.tell_with(alloc, words, out),
+            ("but", words) => self.tell_but(alloc, words, out),
             _ => Ok(false),
         }
     }
 }
 
 /// Shows each line of a row that is told otherwise, and each change that left it good.
-pub fn judge(alloc: Global, row: &str, shown: &mut String) -> Result<u64, NoMemory> {
+pub fn judge(alloc: Global, row: BlockRow<'_>, shown: &mut String) -> Result<u64, NoMemory> {
     let mut teller = VerdictRow {
-        front: Bytes::new(alloc),
+        front: row.bytes(alloc, "input")?,
         good: String::new(alloc),
     };
-    let lines = judge_lines(alloc, &mut teller, row, shown)?;
+    let lines = judge_lines(alloc, &mut teller, row.lines, shown)?;
     shown.push_str(teller.good.as_str())?;
     Ok(lines)
 }

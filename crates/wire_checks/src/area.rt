@@ -1,9 +1,9 @@
 //! The area of the wire: the subject of each file of rows.
 
-use crate::vectors::{judge_replies, judge_requests};
 use crate::{links, messages, packets, requests};
 use anyhow::Result;
-use check_rows::judging::{self, judge_files};
+use check_rows::row::BlockRow;
+use check_rows::told::{RowTeller, judge_all_told};
 use check_rows::ways::Way;
 use jk_io::NoMemory;
 use std::alloc::Global;
@@ -18,34 +18,34 @@ enum Area {
     Links,
 }
 
-static FILES: [(&str, Area); 4] = [
+static FILES: [(&str, Area); 6] = [
     ("wire/packets.txt", Area::Packets),
     ("wire/messages.txt", Area::Messages),
     ("wire/requests.txt", Area::Requests),
     ("wire/links.txt", Area::Links),
+    ("wire/reply.txt", Area::Messages),
+    ("wire/request.txt", Area::Requests),
 ];
 
-impl judging::Area for Area {
+impl RowTeller for Area {
     fn tell(
         &self,
         alloc: Global,
-        fields: &[&str; 8],
+        row: BlockRow<'_>,
         bytes: &[u8],
         way: Way,
         out: &mut String,
     ) -> Result<(), NoMemory> {
         match self {
-            Area::Packets => packets::tell(alloc, fields, bytes, way, out),
-            Area::Messages => messages::tell(alloc, fields, bytes, out),
-            Area::Requests => requests::tell(alloc, fields, bytes, out),
-            Area::Links => links::tell(alloc, fields, bytes, out),
+            Area::Packets => packets::tell(alloc, row, bytes, way, out),
+            Area::Messages => messages::tell(alloc, row, bytes, out),
+            Area::Requests => requests::tell(alloc, row, bytes, out),
+            Area::Links => links::tell(alloc, row, bytes, out),
         }
     }
 }
 
 /// Shows each row that comes out otherwise, and how many of each file come out as they say.
 pub fn judge<R: Print + AllocGlobal + Files>(rt: &R) -> Result<()> {
-    judge_files(rt, &FILES)?;
-    judge_replies(rt)?;
-    judge_requests(rt)
+    judge_all_told(rt, &FILES)
 }

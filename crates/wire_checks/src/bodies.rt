@@ -1,7 +1,8 @@
 //! Bodies, by their length and by chunks.
 
-use check_rows::rows::number;
+use check_rows::row::BlockRow;
 use check_rows::telling::{put_bytes, put_count, put_faults, put_plain, put_shown, put_word};
+use check_rows::texts::number;
 use check_rows::ways::{Way, link_of};
 use http_front::{BodyFault, BodyIn, BodyPlan, Inbox};
 use jk_io::{MemLink, NoMemory};
@@ -12,22 +13,29 @@ const NO_LIMIT: u64 = 1 << 40;
 
 pub fn tell(
     alloc: Global,
-    fields: &[&str; 8],
+    row: BlockRow<'_>,
     bytes: &[u8],
     way: Way,
     out: &mut String,
 ) -> Result<(), NoMemory> {
-    tell_client(alloc, fields, &mut link_of(alloc, bytes, way)?, out)
+    tell_client(alloc, row, &mut link_of(alloc, bytes, way)?, out)
 }
 
 fn tell_client(
     alloc: Global,
-    fields: &[&str; 8],
+    row: BlockRow<'_>,
     client: &mut MemLink,
     out: &mut String,
 ) -> Result<(), NoMemory> {
-    let body = &mut BodyIn::new(plan_of(fields[1]), most_of(fields[2]));
-    do_acts(alloc, fields[3], body, &mut Inbox::new(alloc)?, client, out)
+    let body = &mut BodyIn::new(plan_of(row.word("plan")), most_of(row.word("most")));
+    do_acts(
+        alloc,
+        row.word("acts"),
+        body,
+        &mut Inbox::new(alloc)?,
+        client,
+        out,
+    )
 }
 
 /// How a body is framed: `none`, `chunked`, or its length.

@@ -1,6 +1,6 @@
 //! Heads and paths.
 
-use check_rows::rows::number;
+use check_rows::row::BlockRow;
 use check_rows::telling::{part, put_bytes, put_count, put_faults, put_plain, put_shown, put_word};
 use check_rows::ways::{Way, link_of};
 use http_front::{BodyPlan, Head, HeadError, HeadGot, Inbox, PathError, clean_path, read_head};
@@ -10,37 +10,37 @@ use std::fmt::Write;
 
 pub fn tell(
     alloc: Global,
-    fields: &[&str; 8],
+    row: BlockRow<'_>,
     bytes: &[u8],
     way: Way,
     out: &mut String,
 ) -> Result<(), NoMemory> {
-    if fields[0] == "path" {
+    if row.word("kind") == "path" {
         return tell_path(alloc, bytes, out);
     }
-    tell_over(alloc, fields, bytes, way, out)
+    tell_over(alloc, row, bytes, way, out)
 }
 
 fn tell_over(
     alloc: Global,
-    fields: &[&str; 8],
+    row: BlockRow<'_>,
     bytes: &[u8],
     way: Way,
     out: &mut String,
 ) -> Result<(), NoMemory> {
-    tell_client(alloc, fields, &mut link_of(alloc, bytes, way)?, out)
+    tell_client(alloc, row, &mut link_of(alloc, bytes, way)?, out)
 }
 
 fn tell_client(
     alloc: Global,
-    fields: &[&str; 8],
+    row: BlockRow<'_>,
     client: &mut MemLink,
     out: &mut String,
 ) -> Result<(), NoMemory> {
     let inbox = &mut Inbox::new(alloc)?;
-    let kind = fields[0];
-    if kind.starts_with("heads") {
-        return tell_heads(alloc, number(fields[1]), inbox, client, out);
+    let kind = row.word("kind");
+    if kind == "heads" {
+        return tell_heads(alloc, row.amount(alloc, "calls")?, inbox, client, out);
     }
     tell_head(alloc, kind == "parts", inbox, client, out)
 }

@@ -2,7 +2,8 @@
 
 use crate::{bodies, heads, laws, replies, routes};
 use anyhow::Result;
-use check_rows::judging::{self, judge_files};
+use check_rows::row::BlockRow;
+use check_rows::told::{RowTeller, judge_all_told};
 use check_rows::ways::Way;
 use jk_io::NoMemory;
 use std::alloc::Global;
@@ -24,20 +25,20 @@ static FILES: [(&str, Area); 4] = [
     ("http/routes.txt", Area::Routes),
 ];
 
-impl judging::Area for Area {
+impl RowTeller for Area {
     fn tell(
         &self,
         alloc: Global,
-        fields: &[&str; 8],
+        row: BlockRow<'_>,
         bytes: &[u8],
         way: Way,
         out: &mut String,
     ) -> Result<(), NoMemory> {
         match self {
-            Area::Heads => heads::tell(alloc, fields, bytes, way, out),
-            Area::Bodies => bodies::tell(alloc, fields, bytes, way, out),
-            Area::Replies => replies::tell(alloc, fields, bytes, way, out),
-            Area::Routes => routes::tell(alloc, fields, bytes, out),
+            Area::Heads => heads::tell(alloc, row, bytes, way, out),
+            Area::Bodies => bodies::tell(alloc, row, bytes, way, out),
+            Area::Replies => replies::tell(alloc, row, bytes, way, out),
+            Area::Routes => routes::tell(alloc, row, bytes, out),
         }
     }
 }
@@ -45,5 +46,5 @@ impl judging::Area for Area {
 /// Shows each row that comes out otherwise, and how many of each file come out as they say.
 pub fn judge_http<R: Print + AllocGlobal + Files>(rt: &R) -> Result<()> {
     laws::hold_of_some();
-    judge_files(rt, &FILES)
+    judge_all_told(rt, &FILES)
 }

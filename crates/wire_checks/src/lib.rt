@@ -1,9 +1,8 @@
 //! Reads rows of data/ on links, AJPv1.3, HTTP and what is forwarded, does on the wire what each says, and shows each row that
 //! comes out otherwise.
 //!
-//! The wanted answer stands at the end of a row. It comes from RFC 9110, RFC 9112, the AJPv1.3 reference, or the scripts of
-//! vectors/. How a row is written stands in `check_rows::rows`, and what its fields are at the head of each file of
-//! crates/checks/data/wire and http.
+//! What a row wants comes from RFC 9110, RFC 9112, the AJPv1.3 reference, or the scripts of vectors/. How a row is written stands in
+//! docs/FORMATS.md, and which keys it has at the head of each file of crates/checks/data/wire and http.
 #![tactic(auto)]
 
 mod area;
@@ -17,7 +16,6 @@ mod packets;
 mod replies;
 mod requests;
 mod routes;
-mod vectors;
 
 pub use area::judge;
 pub use http_area::judge_http;

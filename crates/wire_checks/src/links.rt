@@ -1,8 +1,9 @@
 //! Links in memory, and numbers in decimal digits.
 
 use check_rows::echo;
-use check_rows::rows::{bytes_of, number, numbers_of};
+use check_rows::row::BlockRow;
 use check_rows::telling::{part, put_bytes, put_faults, put_plain, put_shown, put_word};
+use check_rows::texts::{bytes_of, number, numbers_of};
 use jk_io::{
     Bytes, IoError, MemLink, NoMemory, NumberList, Sink, Source, parse_decimal, put_decimal, trim,
 };
@@ -10,17 +11,22 @@ use std::alloc::Global;
 
 pub fn tell(
     alloc: Global,
-    fields: &[&str; 8],
+    row: BlockRow<'_>,
     bytes: &[u8],
     out: &mut String,
 ) -> Result<(), NoMemory> {
-    match fields[0] {
-        "reads" => tell_failing(alloc, bytes, fields[1], out),
-        "pieces" => tell_pieces(alloc, bytes, fields[1], out),
-        "writes" => tell_silent(alloc, fields, out),
-        "echo" => tell_planned(alloc, bytes, fields[1], out),
+    match row.word("kind") {
+        "reads" => tell_failing(alloc, bytes, row.word("fails"), out),
+        "pieces" => tell_pieces(alloc, bytes, row.word("cuts"), out),
+        "writes" => tell_silent(alloc, row, out),
+        "echo" => tell_planned(alloc, bytes, row.word("calls"), out),
         "decimal" => put_shown(out, &parse_decimal(bytes)),
-        "digits" => tell_digits(alloc, number(fields[1]), number(fields[2]), out),
+        "digits" => tell_digits(
+            alloc,
+            number(row.word("high")),
+            number(row.word("low")),
+            out,
+        ),
         _ => put_bytes(out, trim(bytes)),
     }
 }
@@ -43,8 +49,13 @@ fn tell_pieces(
     tell_reads(&mut in_pieces(alloc, bytes, places)?, out)
 }
 
-fn tell_silent(alloc: Global, fields: &[&str; 8], out: &mut String) -> Result<(), NoMemory> {
-    tell_writes(alloc, &mut silent(alloc, fields[1])?, fields[2], out)
+fn tell_silent(alloc: Global, row: BlockRow<'_>, out: &mut String) -> Result<(), NoMemory> {
+    tell_writes(
+        alloc,
+        &mut silent(alloc, row.word("fails"))?,
+        row.word("pieces"),
+        out,
+    )
 }
 
 fn tell_planned(

@@ -4,20 +4,20 @@ ghost use Rattle.ajp_reply.specs.Spelling.{IsMessage};
 
 use ajp_reply::{Message, ReplyParts, decode_reply, encode_reply};
 use ajp_wire::{EncodeError, HeadPairs, MAX_HEADERS};
-use check_rows::rows::{bytes_of, number, pair_of};
+use check_rows::row::BlockRow;
 use check_rows::telling::{put_bytes, put_count, put_shown};
 use jk_io::{Bytes, NoMemory};
 use std::alloc::Global;
 
 pub fn tell(
     alloc: Global,
-    fields: &[&str; 8],
+    row: BlockRow<'_>,
     bytes: &[u8],
     out: &mut String,
 ) -> Result<(), NoMemory> {
-    match fields[0] {
+    match row.word("kind") {
         "payload" => tell_payload(alloc, bytes, out),
-        _ => tell_written(alloc, fields, out),
+        _ => tell_written(alloc, row, out),
     }
 }
 
@@ -26,10 +26,10 @@ pub fn tell_payload(alloc: Global, payload: &[u8], out: &mut String) -> Result<(
     put_shown(out, &decode_reply(alloc, payload))
 }
 
-fn tell_written(alloc: Global, fields: &[&str; 8], out: &mut String) -> Result<(), NoMemory> {
-    let most = u32::try_from(number(fields[1])).unwrap_or(u32::MAX);
-    let whole = fields[0] == "message";
-    tell_message(alloc, whole, &message(alloc, fields)?, most, out)
+fn tell_written(alloc: Global, row: BlockRow<'_>, out: &mut String) -> Result<(), NoMemory> {
+    let most = u32::try_from(row.amount(alloc, "most")?).unwrap_or(u32::MAX);
+    let whole = row.word("kind") == "message";
+    tell_message(alloc, whole, &message(alloc, row)?, most, out)
 }
 
 fn tell_message(
@@ -55,45 +55,55 @@ pub fn put_packet(
     }
 }
 
-fn message(alloc: Global, fields: &[&str; 8]) -> Result<Message, NoMemory> {
-    match fields[2] {
-        "head" => head(alloc, fields[3], fields[4], fields[5]),
-        "chunk" => Ok(Message::Chunk(bytes_of(alloc, fields[3])?)),
-        "ask" => Ok(Message::Ask(u16::try_from(number(fields[3])).unwrap_or(0))),
+fn message(alloc: Global, row: BlockRow<'_>) -> Result<Message, NoMemory> {
+    match row.word("of") {
+        "head" => head(alloc, row),
+        "chunk" => Ok(Message::Chunk(row.bytes(alloc, "bytes")?)),
+        "ask" => Ok(Message::Ask(u16::try_from(row.amount(alloc, "number")?).unwrap_or(0))),
         "end" => Ok(Message::End {
-            reuse: fields[3] == "true",
+            reuse: row.word("reuse") == "true",
         }),
         _ => Ok(Message::Pong),
     }
 }
 
-fn head(alloc: Global, status: &str, text: &str, pairs: &str) -> Result<Message, NoMemory> {
+fn head(alloc: Global, row: BlockRow<'_>) -> Result<Message, NoMemory> {
     Ok(Message::Headers(ReplyParts {
-        status: u16::try_from(number(status)).unwrap_or(0),
-        message: bytes_of(alloc, text)?,
-        headers: pairs_of(alloc, pairs)?,
+        status: u16::try_from(row.amount(alloc, "status")?).unwrap_or(0),
+        message: row.bytes(alloc, "text")?,
+        headers: headers_of(alloc, row)?,
     }))
 }
 
-fn push_pair(alloc: Global, pairs: &mut HeadPairs, item: &str) -> Result<(), NoMemory> {
-    pairs.push(pair_of(alloc, item)?)?;
+/// The name and the value of a header, between which `: ` stands.
+fn pair_in(alloc: Global, text: &[u8]) -> Result<(Bytes, Bytes), NoMemory> {
+    for place in 0..text.len() {
+        if let Some(value) = text[place..].strip_prefix(b": ") {
+            let name = Bytes::from_slice(alloc, &text[..place])?;
+            return Ok((name, Bytes::from_slice(alloc, value)?));
+        }
+    }
+    Ok((Bytes::from_slice(alloc, text)?, Bytes::new(alloc)))
+}
+
+fn push_header(
+    alloc: Global,
+    row: BlockRow<'_>,
+    place: usize,
+    headers: &mut HeadPairs,
+) -> Result<(), NoMemory> {
+    let text = row.bytes_at(alloc, "header", place)?;
+    headers.push(pair_in(alloc, text.as_slice())?)?;
     Ok(())
 }
 
-fn push_pairs(alloc: Global, pairs: &mut HeadPairs, list: &str) -> Result<(), NoMemory> {
-    for item in list.split(" & ") {
-        push_pair(alloc, pairs, item)?;
+/// The headers of a row, each with a line of its own.
+pub fn headers_of(alloc: Global, row: BlockRow<'_>) -> Result<HeadPairs, NoMemory> {
+    let mut headers = HeadPairs::new(alloc);
+    for place in 0..row.count("header") {
+        push_header(alloc, row, place, &mut headers)?;
     }
-    Ok(())
-}
-
-/// The pairs of a list.
-pub fn pairs_of(alloc: Global, list: &str) -> Result<HeadPairs, NoMemory> {
-    let mut pairs = HeadPairs::new(alloc);
-    if list != "-" {
-        push_pairs(alloc, &mut pairs, list)?;
-    }
-    Ok(pairs)
+    Ok(headers)
 }
 
 /// A message has no more headers than it may have.

@@ -1,10 +1,10 @@
-//! Packets of AJPv1.3, read and sealed, and the fields of their payloads.
+//! Packets of AJPv1.3, read and sealed, and the row of their payloads.
 
 use ajp_wire::{
     WireError, body_packet, code_of, next_headers, put_string, read_packet, seal, take_int,
     take_string,
 };
-use check_rows::rows::number;
+use check_rows::row::BlockRow;
 use check_rows::telling::{put_bytes, put_count, put_faults, put_shown};
 use check_rows::ways::{Way, link_of};
 use jk_io::{Bytes, MemLink, NoMemory};
@@ -12,38 +12,38 @@ use std::alloc::Global;
 
 pub fn tell(
     alloc: Global,
-    fields: &[&str; 8],
+    row: BlockRow<'_>,
     bytes: &[u8],
     way: Way,
     out: &mut String,
 ) -> Result<(), NoMemory> {
-    match fields[0] {
-        "seal" | "seal-size" => tell_sealed(alloc, fields, bytes, out),
-        "piece" | "piece-size" => tell_piece(alloc, fields, bytes, out),
+    match row.word("kind") {
+        "seal" | "seal-size" => tell_sealed(alloc, row, bytes, out),
+        "piece" | "piece-size" => tell_piece(alloc, row, bytes, out),
         "string-size" => tell_string(alloc, bytes, out),
-        "places" => tell_places(number(fields[1]) as usize, bytes, out),
+        "places" => tell_places(row.amount(alloc, "at")? as usize, bytes, out),
         "headers" => tell_headers(alloc, bytes, out),
         "code" => put_shown(out, &code_of(&TABLE, bytes)),
-        _ => tell_line(alloc, fields, bytes, way, out),
+        _ => tell_line(alloc, row, bytes, way, out),
     }
 }
 
 fn tell_line(
     alloc: Global,
-    fields: &[&str; 8],
+    row: BlockRow<'_>,
     bytes: &[u8],
     way: Way,
     out: &mut String,
 ) -> Result<(), NoMemory> {
-    tell_read(alloc, fields, &mut link_of(alloc, bytes, way)?, out)
+    tell_read(alloc, row, &mut link_of(alloc, bytes, way)?, out)
 }
 
 /// The table of names that the rows of headers and codes go by.
 static TABLE: [&[u8]; 2] = [b"First", b"Second"];
 
 /// Whether the packet itself is asked for, and not its length alone.
-fn is_whole(fields: &[&str; 8]) -> bool {
-    !fields[0].ends_with("-size")
+fn is_whole(row: BlockRow<'_>) -> bool {
+    !row.word("kind").ends_with("-size")
 }
 
 fn sealed(alloc: Global, payload: &[u8], to_container: bool) -> Result<Bytes, WireError> {
@@ -52,21 +52,21 @@ fn sealed(alloc: Global, payload: &[u8], to_container: bool) -> Result<Bytes, Wi
 
 fn tell_sealed(
     alloc: Global,
-    fields: &[&str; 8],
+    row: BlockRow<'_>,
     bytes: &[u8],
     out: &mut String,
 ) -> Result<(), NoMemory> {
-    let packet = sealed(alloc, bytes, fields[1] == "to container");
-    put_packet(out, is_whole(fields), &packet)
+    let packet = sealed(alloc, bytes, row.word("to") == "container");
+    put_packet(out, is_whole(row), &packet)
 }
 
 fn tell_piece(
     alloc: Global,
-    fields: &[&str; 8],
+    row: BlockRow<'_>,
     bytes: &[u8],
     out: &mut String,
 ) -> Result<(), NoMemory> {
-    put_packet(out, is_whole(fields), &body_packet(alloc, bytes))
+    put_packet(out, is_whole(row), &body_packet(alloc, bytes))
 }
 
 fn string(alloc: Global, text: &[u8]) -> Result<Bytes, WireError> {
@@ -104,12 +104,12 @@ fn tell_places(at: usize, bytes: &[u8], out: &mut String) -> Result<(), NoMemory
 /// What a read of one packet answers, and how many bytes it leaves.
 fn tell_read(
     alloc: Global,
-    fields: &[&str; 8],
+    row: BlockRow<'_>,
     line: &mut MemLink,
     out: &mut String,
 ) -> Result<(), NoMemory> {
-    let most = u32::try_from(number(fields[2])).unwrap_or(0);
-    match read_packet(alloc, line, fields[1] == "from container", most) {
+    let most = u32::try_from(row.amount(alloc, "most")?).unwrap_or(0);
+    match read_packet(alloc, line, row.word("from") == "container", most) {
         Ok(payload) => put_bytes(out, payload.as_slice())?,
         Err(error) => put_shown(out, &error)?,
     }

@@ -2,8 +2,9 @@
 ghost use Rattle.std.specs.Prelude.{IfOk, OnOk};
 ghost use Rattle.http_out.specs.Writer.{IsOpenReply};
 
-use check_rows::rows::{bytes_of, number, pair_of};
+use check_rows::row::BlockRow;
 use check_rows::telling::{put_bytes, put_shown, put_word};
+use check_rows::texts::{bytes_of, number, pair_of};
 use check_rows::ways::{Way, link_of};
 use http_front::HeadLines;
 use http_out::{OutError, OwnAnswer, OwnKind, ReplyHead, ReplyWriter, RequestKind, own_answer};
@@ -13,25 +14,20 @@ use std::alloc::Global;
 
 pub fn tell(
     alloc: Global,
-    fields: &[&str; 8],
+    row: BlockRow<'_>,
     bytes: &[u8],
     way: Way,
     out: &mut String,
 ) -> Result<(), NoMemory> {
-    match fields[0] {
-        "own" => tell_own(fields[1], out),
+    match row.word("kind") {
+        "own" => tell_own(row.word("asked"), out),
         "message" => put_end(out, &judged(alloc, bytes)),
-        _ => tell_over(alloc, fields, way, out),
+        _ => tell_over(alloc, row, way, out),
     }
 }
 
-fn tell_over(
-    alloc: Global,
-    fields: &[&str; 8],
-    way: Way,
-    out: &mut String,
-) -> Result<(), NoMemory> {
-    tell_reply(alloc, fields, &mut link_of(alloc, &[], way)?, out)
+fn tell_over(alloc: Global, row: BlockRow<'_>, way: Way, out: &mut String) -> Result<(), NoMemory> {
+    tell_reply(alloc, row, &mut link_of(alloc, &[], way)?, out)
 }
 
 /// The answer to HEAD, and what more the answer to another method has; with the moment of the row.
@@ -121,11 +117,11 @@ pub fn lines_of(alloc: Global, list: &str) -> Result<HeadLines, NoMemory> {
 /// What the client gets, and the answer of the last call.
 fn tell_reply(
     alloc: Global,
-    fields: &[&str; 8],
+    row: BlockRow<'_>,
     client: &mut MemLink,
     out: &mut String,
 ) -> Result<(), NoMemory> {
-    let end = reply(alloc, fields, client, out);
+    let end = reply(alloc, row, client, out);
     put_end(out, &end)?;
     put_bytes(out, client.sent())
 }
@@ -134,26 +130,26 @@ fn tell_reply(
 /// are made, and each answer is told.
 fn reply(
     alloc: Global,
-    fields: &[&str; 8],
+    row: BlockRow<'_>,
     client: &mut MemLink,
     out: &mut String,
 ) -> Result<(), OutError> {
-    let writer = &mut opened(alloc, fields)?;
-    if fields[1].ends_with("goes on") {
-        go_on(alloc, writer, fields[4], client, out)
+    let writer = &mut opened(alloc, row)?;
+    if row.word("asked").ends_with("goes on") {
+        go_on(alloc, writer, row.word("chunks"), client, out)
     } else {
-        pass(alloc, writer, fields[4], client)
+        pass(alloc, writer, row.word("chunks"), client)
     }
 }
 
 /// A writer that has taken the row's head.
-fn opened(alloc: Global, fields: &[&str; 8]) -> Result<ReplyWriter, OutError>
+fn opened(alloc: Global, row: BlockRow<'_>) -> Result<ReplyWriter, OutError>
     ensures { IfOk result (λ writer. IsOpenReply writer) }
 {
-    let asked = fields[1];
+    let asked = row.word("asked");
     let mut writer = ReplyWriter::new(alloc, kind_in(asked));
-    let status = u16::try_from(number(fields[2])).unwrap_or(0);
-    writer.headers(head_with(alloc, status, b"OK", fields[3])?)?;
+    let status = u16::try_from(number(row.word("status"))).unwrap_or(0);
+    writer.headers(head_with(alloc, status, b"OK", row.word("lines"))?)?;
     Ok(writer)
 }
 

@@ -2,10 +2,10 @@
 ghost use Rattle.std.specs.Prelude.{IfOk};
 ghost use Rattle.ajp_request.specs.Writing.{IsForward};
 
-use crate::messages::{pairs_of, put_packet};
+use crate::messages::{headers_of, put_packet};
 use ajp_request::{Forward, decode_forward, encode_forward};
 use ajp_wire::{EncodeError, HEAD_BYTES, HeadPairs, MAX_HEADERS};
-use check_rows::rows::{bytes_of, number};
+use check_rows::row::BlockRow;
 use check_rows::telling::{put_shown, put_word};
 use jk_io::{Bytes, NoMemory};
 use std::alloc::Global;
@@ -13,15 +13,15 @@ use std::fmt::Write;
 
 pub fn tell(
     alloc: Global,
-    fields: &[&str; 8],
+    row: BlockRow<'_>,
     bytes: &[u8],
     out: &mut String,
 ) -> Result<(), NoMemory> {
-    let most = u32::try_from(number(fields[1])).unwrap_or(u32::MAX);
-    match fields[0] {
+    let most = u32::try_from(row.amount(alloc, "most")?).unwrap_or(u32::MAX);
+    match row.word("kind") {
         "payload" => tell_payload(alloc, bytes, out),
         "rewrite" => tell_rewritten(alloc, bytes, most, out),
-        _ => tell_sized(alloc, fields, bytes, most, out),
+        _ => tell_sized(alloc, row, bytes, most, out),
     }
 }
 
@@ -54,11 +54,11 @@ fn tell_packet(
 }
 
 /// The request of a payload, with this path and these headers, at most a hundred, in the place of its own.
-fn sized(alloc: Global, fields: &[&str; 8], payload: &[u8]) -> Result<Forward, NoMemory>
+fn sized(alloc: Global, row: BlockRow<'_>, payload: &[u8]) -> Result<Forward, NoMemory>
     ensures { IfOk result IsForward }
 {
-    let headers = pairs_of(alloc, fields[3])?;
-    with_parts(alloc, bytes_of(alloc, fields[2])?, headers, payload)
+    let headers = headers_of(alloc, row)?;
+    with_parts(alloc, row.bytes(alloc, "path")?, headers, payload)
 }
 
 fn with_parts(
@@ -81,12 +81,12 @@ fn with_parts(
 
 fn tell_sized(
     alloc: Global,
-    fields: &[&str; 8],
+    row: BlockRow<'_>,
     payload: &[u8],
     most: u32,
     out: &mut String,
 ) -> Result<(), NoMemory> {
-    tell_written(alloc, &sized(alloc, fields, payload)?, most, out)
+    tell_written(alloc, &sized(alloc, row, payload)?, most, out)
 }
 
 /// How many bytes the packet has, and whether it is read again as it was, or why it isn't written.

@@ -3,8 +3,9 @@
 use crate::replies::lines_of;
 use ajp_reply::Stage;
 use ajp_wire::EncodeError;
-use check_rows::rows::{bytes_of, number};
+use check_rows::row::BlockRow;
 use check_rows::telling::{part, put_bytes, put_count, put_shown, put_word};
+use check_rows::texts::bytes_of;
 use forwarding::{IdList, MethodKind, forward_packet, may_retry, routed, session_ids};
 use http_front::{BodyPlan, Head, HeadLines};
 use jk_io::{Bytes, ListOf, NoMemory, Peer};
@@ -15,14 +16,17 @@ use std::fmt::Write;
 
 pub fn tell(
     alloc: Global,
-    fields: &[&str; 8],
+    row: BlockRow<'_>,
     bytes: &[u8],
     out: &mut String,
 ) -> Result<(), NoMemory> {
-    match fields[0] {
-        "ids" => tell_ids_in(alloc, fields[1], fields[2], out),
-        "retry" => tell_retry(u8::try_from(number(fields[1])).unwrap_or(0), out),
-        _ => tell_packet(alloc, fields, bytes, out),
+    match row.word("kind") {
+        "ids" => tell_ids_in(alloc, row.word("path"), row.word("lines"), out),
+        "retry" => tell_retry(
+            u8::try_from(row.amount(alloc, "options")?).unwrap_or(0),
+            out,
+        ),
+        _ => tell_packet(alloc, row, bytes, out),
     }
 }
 
@@ -179,17 +183,23 @@ fn is_retried(options: u8, case: u32) -> bool {
         .any(|method| may_retry(options, *method, stage))
 }
 
+/// The head of a row's request.
+fn asked_head(alloc: Global, row: BlockRow<'_>) -> Result<Head, NoMemory> {
+    let method = row.word("method").as_bytes();
+    head_of(alloc, method, "/", row.word("query"), row.word("lines"))
+}
+
 /// The packet that the member of route r1 gets for a request from 127.0.0.1.
 fn tell_packet(
     alloc: Global,
-    fields: &[&str; 8],
+    row: BlockRow<'_>,
     secret: &[u8],
     out: &mut String,
 ) -> Result<(), NoMemory> {
     tell_packet_of(
         alloc,
-        fields[1] == "direct",
-        &head_of(alloc, fields[2].as_bytes(), "/", fields[3], fields[4])?,
+        row.word("how") == "direct",
+        &asked_head(alloc, row)?,
         secret,
         out,
     )
