@@ -7,7 +7,7 @@ container didn't get the request, or option 1 is off) and (it didn't send the he
 
 A case is a bit of a row's number: head + 2 get + 4 got + 8 headers + 16 passed + 32 beyond is its place.
 
-    python3 vectors/retry_table.py      the rows `retry` of crates/checks/data/http/routes.txt
+    python3 vectors/retry_table.py      the lines `with` of the row `retry` in crates/checks/data/http/routes.txt
 """
 
 
@@ -24,4 +24,4 @@ def allowed(options, case):
 
 
 for options in range(32):
-    print("retry | %d | %04x" % (options, sum(allowed(options, case) << case for case in range(64))))
+    print("with %d => %04x" % (options, sum(allowed(options, case) << case for case in range(64))))

@@ -14,6 +14,7 @@ hand from packets and lines.
 import email.utils
 import re
 import sys
+import textwrap
 
 import pages
 
@@ -38,7 +39,7 @@ REFUSALS = {
 
 
 def spelled(data):
-    """Bytes as a field spells them."""
+    """Bytes as the text of a row spells them."""
     if not data:
         return "\\e"
     out = []
@@ -56,9 +57,20 @@ def spelled(data):
 
 
 def short(text):
-    """A row's text, with what is repeated often written once."""
+    """A text with what is repeated often written once, between `\\{` and `*N\\}`."""
     once = lambda run: f"\\{{{run[1]}*{len(run[0]) // len(run[1])}\\}}"
     return re.sub(r"([^{}]{20,300}?)\1{19,}", once, re.sub(r"([a-z])\1{39,}", once, text))
+
+
+def text_lines(key, text):
+    """A text in the line of its key, and below it where a part of it is repeated."""
+    first, *parts = short(text).split("\\{")
+    lines = [f"{key} {first}" if first else key]
+    for part in parts:
+        inside, rest = part.split("\\}", 1)
+        piece, count = inside.rsplit("*", 1)
+        lines += [f"times {count} {piece}"] + ([f"+{rest}"] if rest else [])
+    return lines
 
 
 def told_byte(byte):
@@ -235,18 +247,59 @@ class Row:
             parts.append(self.desk)
         return " ".join(parts)
 
-    def line(self, what, fourth, last):
-        first = what + (" " + self.ways if self.ways else "")
-        site = [self.words, spelled(self.workers.encode()), spelled(self.map.encode())]
-        return " | ".join([first, *site, fourth, last, self.wanted()])
+    def head(self, of_member):
+        """The lines of a row but its bytes and its output."""
+        lines = [f"ways {self.ways}"] if self.ways else []
+        lines += [f"words {self.words}"] if self.words != "-" else []
+        lines += [f"workers {spelled(self.workers.encode())}", f"map {spelled(self.map.encode())}"]
+        lines += text_lines("client", spelled(self.client)) if of_member else []
+        for link in self.links[1:] if of_member else self.links:
+            lines += text_lines("link", spelled(link))
+        return lines
 
-    def of_client(self):
-        links = " & ".join(spelled(link) for link in self.links) or "-"
-        return self.line("session", links, spelled(self.client))
+    def texts(self, of_member):
+        """The bytes that come in the row's ways, and what comes out."""
+        return spelled(self.links[0] if of_member else self.client), self.wanted()
 
-    def of_member(self):
-        first, *others = map(spelled, self.links)
-        return self.line("reply", " & ".join([spelled(self.client), *others]), first)
+
+def print_group(name, rows, of_member):
+    """Rows of one name that differ at most in their bytes and in what comes out."""
+    print(f"\nrow {name}")
+    print("\n".join(rows[0].head(of_member)))
+    texts = [row.texts(of_member) for row in rows]
+    differs = [len({text[side] for text in texts}) > 1 for side in (0, 1)]
+    for side, key in enumerate(("bytes", "output")):
+        print("\n".join([f"{key} \\{side + 1 if differs[0] else 1}"] if differs[side] else text_lines(key, texts[0][side])))
+    for text in texts if any(differs) else []:
+        print("with " + " => ".join(text[side] for side in (0, 1) if differs[side]))
+
+
+def may_join(rows, row, of_member):
+    """Whether a row without a name of its own is done by a line `with` of these."""
+    texts = [text for one in [*rows, row] for text in one.texts(of_member)]
+    return rows[0].head(of_member) == row.head(of_member) and all(short(text) == text and " => " not in text for text in texts)
+
+
+def print_rows(parts, of_member, is_asked):
+    """The rows of these parts, with a comment for each part of a file."""
+    title, name, rows = None, None, []
+    for row in (row for part in parts for row in part()):
+        if isinstance(row, str):
+            joined, title, named = False, row, row
+        elif not is_asked(row):
+            continue
+        else:
+            joined, named = not row.name and rows and may_join(rows, row, of_member), row.name or name
+        if rows and not joined:
+            print_group(name, rows, of_member)
+            rows = []
+        if not isinstance(row, str):
+            if title and row.name:
+                print(f"\n# {title}")
+            title = None
+            rows.append(row)
+        name = named
+    print_group(name, rows, of_member)
 
 
 ONE = "worker.list=w1\nworker.w1.retries=1\n"
@@ -764,41 +817,35 @@ def places():
         yield place(number, "with options 4", False, lost, gets=reply()[:at], options=4, ways=f"write@{at}", **gone)
 
 
-SESSIONS = """# Sessions of one client, by RFC 9112, the AJPv1.3 reference, the Tomcat Connectors reference and docs/FORMATS.md.
-# Made by vectors/sessions.py.
-#
-#   session WAYS | WORDS | WORKERS | MAP | LINKS | CLIENT | END ROWS TALKS client GOT faults N BALANCERS
-#
-# WAYS is of the client's link. WORDS has `first=N` for the number of the Books' first entry, `dial=N` where that dial, from 0,
-# fails, `client=N` where the client's write fails after N bytes, `waits=N` where its next read would wait once N bytes were read,
-# `unflushed=N` where that flush to it, from 0, fails, `dated=N` where answers tell their moment and the clock is at N; `-` is none of these. With `awaits` the row ends with what the client's link
-# was told to await. WORKERS and MAP are the two files of the site, LINKS what each link that is dialled has to come, CLIENT what the client sends. END is how the session ended. Each
-# row of the log is `row METHOD TARGET STATUS BODY WORKER`; each talk `to LB.MEMBER SENT`, with `kept` where its link was.
-# Each balancer is told by its next number, and its members with their states."""
-
-REPLIES = SESSIONS.replace("session WAYS | WORDS | WORKERS | MAP | LINKS | CLIENT", "reply WAYS | WORDS | WORKERS | MAP | CLIENT | LINK").replace(
-    "WAYS is of the client's link.", "WAYS is of the first link to a member, LINK what it has to come.").replace("LINKS what each link that is dialled has to come, ", "")
+def comment(text):
+    return textwrap.fill(text, 132, initial_indent="# ", subsequent_indent="# ", break_on_hyphens=False)
 
 
-PLACES = SESSIONS + "\n#\n# One call fails in each row. Those of the first link to a member stand in member_places.txt,\n# and those of a door and of a shelf in crates/serve_checks/data/serve/places.txt."
-
-MEMBER_PLACES = REPLIES.replace("| CLIENT |", "| CLIENT & LINKS |").replace("CLIENT what the client sends.", "CLIENT what the client sends, LINKS what each link "
-                                "after the first has to come.") + "\n#\n# One call of the first link fails in each row. Those of the client, and the dial, stand in places.txt."
+def head_of(what):
+    """The head of a file."""
+    theirs = "the bytes are what the client sends, and each `link` is what a link that is dialled has to come"
+    if what in ("replies", "member_places"):
+        theirs = "`client` is what the client sends, the bytes are what the first link to a member has to come, and each `link` is that of one after it"
+    yield "# Sessions of one client, by RFC 9112, the AJPv1.3 reference, the Tomcat Connectors reference and docs/FORMATS.md."
+    yield "# Made by vectors/sessions.py.\n#"
+    yield comment(
+        "The `words` are `first=N` for the number of the Books' first entry, `dial=N` where that dial, from 0, fails, `client=N` where the client's write "
+        "fails after N bytes, `waits=N` where its next read would wait once N bytes were read, `unflushed=N` where that flush to it, from 0, fails, and "
+        "`dated=N` where answers tell their moment and the clock is at N. With `awaits` the row ends with what the client's link was told to await. "
+        f"`workers` and `map` are the two files of the site, {theirs}. What comes out is how the session ended, each row of the log as "
+        "`row METHOD TARGET STATUS BODY WORKER`, each talk as `to LB.MEMBER SENT`, with `kept` where its link was, what the `client` got, and each "
+        "balancer by its next number and its members with their states.")
+    if what == "places":
+        yield "#\n" + comment("One call fails in each row. Those of the first link to a member stand in member_places.txt, and those of a door and of "
+                              "a shelf in crates/serve_checks/data/serve/places.txt.")
+    if what == "member_places":
+        yield "#\n# One call of the first link fails in each row. Those of the client, and the dial, stand in places.txt."
 
 
 def main(what):
     parts = {"sessions": [plain_sessions, bodies, heads, moments, others, status_workers, waiting], "failing": [failing], "replies": [replies], "places": [places], "member_places": [places]}[what]
-    print({"replies": REPLIES, "places": PLACES, "member_places": MEMBER_PLACES}.get(what, SESSIONS))
-    for part in parts:
-        for row in part():
-            if isinstance(row, str):
-                print(f"\n# {row}")
-                continue
-            if "places" in what and row.by_member != (what == "member_places"):
-                continue
-            if row.name:
-                print(f"# {row.name}")
-            print(short(row.of_member() if what in ("replies", "member_places") else row.of_client()))
+    print("\n".join(head_of(what)))
+    print_rows(parts, what in ("replies", "member_places"), lambda row: "places" not in what or row.by_member == (what == "member_places"))
 
 
 if __name__ == "__main__":

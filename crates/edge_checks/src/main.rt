@@ -2,7 +2,7 @@
 //! that comes out otherwise, and each claim on what a worker gets of the real world, with whether it holds.
 //!
 //! The rows stand in crates/edge_checks/data/edge, and what they want comes from the rules, worked out by hand or by
-//! vectors/serving.py. How a row is written stands in `check_rows`. In each the words order a front, at the port `\2` of the
+//! vectors/serving.py. How a row is written stands in docs/FORMATS.md. In each the words order a front, at the port `\2` of the
 //! loopback, which serves over the real world before a container of the route n1, at the port `\1`. A client dials until the
 //! front listens, and sends the bytes of the file `client`. The other keys are:
 //!

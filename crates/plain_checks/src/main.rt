@@ -2,7 +2,7 @@
 //! a text, and shows each row that comes out otherwise.
 //!
 //! The rows stand in crates/plain_checks/data/plain, and their wanted output comes from the rules, worked out by hand or by a
-//! program of vectors/. How a row is written stands in `check_rows`. Here its keys are:
+//! program of vectors/. How a row is written stands in docs/FORMATS.md. Here its keys are:
 //!
 //!     output              the whole output; where there is a `part`, these are in it
 //!     status N            the status, if it isn't 0

@@ -94,7 +94,7 @@ fn judge_row<R: Threads + Wait + Clock + Sync>(
 }
 
 /// Does each row of a text, shows those that come out otherwise, and answers how many come out as they say. (A trait's method
-/// knows nothing of what its threads share, so these rows aren't judged by `block_judging`.)
+/// knows nothing of what its threads share, so these rows have no `Area`.)
 fn judge_rows<R: Threads + Wait + Clock + Sync>(
     rt: &R,
     alloc: Global,

@@ -1,7 +1,7 @@
 //! Does all commands over files, an output and a world in memory, row by row, and shows each row that comes out otherwise.
 //!
 //! The rows stand in crates/serve_checks/data/serve, and what they want comes from the rules, worked out by hand or by
-//! vectors/serving.py. How a row is written stands in `check_rows`. Here its keys are:
+//! vectors/serving.py. How a row is written stands in docs/FORMATS.md. Here its keys are:
 //!
 //!     gear CLIENTS LINKS  a gear that is handed out, in order, with CLIENTS clients to come to its door and LINKS links to
 //!                         be dialled; the bytes of each are those of the next `file`, clients first; with `refuses` after
