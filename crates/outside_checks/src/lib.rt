@@ -3,7 +3,8 @@
 //! clients that wait, at a stop, at members that say nothing, and at two threads that share one pool. Shows each row that comes
 //! out otherwise, and each claim with whether it holds.
 //!
-//! What a row wants is worked out by hand. How a row is written stands in docs/FORMATS.md, and which keys it has at the heads of crates/checks/data/outside/outside.txt, log/logs.txt and log/watches.txt.
+//! What a row wants is worked out by hand. How a row is written stands in docs/FORMATS.md, and which keys it has at the heads of
+//! crates/checks/data/outside/outside.txt, log/logs.txt and log/watches.txt.
 #![tactic(auto)]
 
 mod area;

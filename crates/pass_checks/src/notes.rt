@@ -7,7 +7,9 @@ use crate::callers::{Met, meet_by_note};
 use crate::pair::PassPair;
 use crate::start::start_book;
 use anyhow::Result as Judged;
+use check_rows::comparing::wants;
 use check_rows::files::{print_count, read_rows};
+use check_rows::row::BlockRow;
 use jk_io::{Bytes, NoMemory, put_decimal};
 use lb_model::MemberRow;
 use lb_passes::{PassBook, PassList, PassPlace, close_passes};
@@ -84,17 +86,10 @@ fn tell_kept<R: Wait>(rt: &R, alloc: Global, out: &mut Bytes) -> Result<(), NoMe
     }
 }
 
-/// What is wanted of the row.
-fn wanted_in(text: &str) -> &str {
-    match text.split_once("\nrow notes meet\n") {
-        Some((_, wanted)) => wanted,
-        None => "",
-    }
-}
-
 /// Shows what is told of the row where it is otherwise than the row says.
 fn judge_told<R: Print + AllocGlobal>(rt: &R, text: &str, told: &[u8]) -> Judged<()> {
-    if wanted_in(text).as_bytes() == told {
+    let row = text.split_once("\nrow ").map_or("", |cut| cut.1);
+    if matches!(wants(rt.alloc(), BlockRow::new(row), told), Ok(true)) {
         return print_count(rt, "", 1, "rows", FILE);
     }
     print_count(rt, str::from_utf8(told).unwrap_or(""), 0, "rows", FILE)
