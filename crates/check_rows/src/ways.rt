@@ -35,7 +35,7 @@ fn range_of(text: &str) -> (u64, u64) {
 }
 
 /// How many places a way's word speaks of, for `len` bytes.
-pub fn count(word: &str, len: usize) -> usize {
+pub(crate) fn count(word: &str, len: usize) -> usize {
     match word.split_once('@') {
         Some((_, range)) => {
             let (first, end) = range_of(range);
@@ -56,7 +56,7 @@ fn count_of(word: &str, len: usize) -> usize {
 }
 
 /// The way of this word at one of its places.
-pub fn way_of(word: &str, len: usize, place: usize) -> Way {
+pub(crate) fn way_of(word: &str, len: usize, place: usize) -> Way {
     match word.split_once('@') {
         Some((what, range)) => failing(what, range_of(range).0.saturating_add(place as u64)),
         None => cut(word, len, place),
