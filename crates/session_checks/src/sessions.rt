@@ -23,7 +23,7 @@ use site_reports::member_counts;
 use std::alloc::Global;
 use std::fmt::Write;
 
-/// A row, and how its last bytes come: those of the client, or those of the first link.
+/// A row, and how its bytes come: those of the client, or those of the first link.
 #[derive(Clone, Copy)]
 struct SessionRow<'t> {
     row: BlockRow<'t>,
