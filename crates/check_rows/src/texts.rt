@@ -77,7 +77,12 @@ fn put_piece(out: &mut Bytes, piece: &[u8], with: With<'_>, number: u64) -> Resu
 }
 
 /// Puts a text, with a number for `\i`.
-pub(crate) fn put_text(out: &mut Bytes, text: &str, with: With<'_>, number: u64) -> Result<(), RowError> {
+pub(crate) fn put_text(
+    out: &mut Bytes,
+    text: &str,
+    with: With<'_>,
+    number: u64,
+) -> Result<(), RowError> {
     let (first, rest) = text.split_once('\\').unwrap_or((text, ""));
     out.extend(first.as_bytes())?;
     if first.len() < text.len() {
