@@ -10,7 +10,7 @@ use Rattle.lb_book.specs.Journal.{Journal, IsStart, past_of}
 use Rattle.plain_commands.specs.Turns.{AppendsRun}
 
 -- the Book that was started has the opening of the draft
-opening_of : (d : draft.DraftWords) (config : LbConfig) (b : Journal) (at : ℕ) → draft.IsConfigOf d config → IsStart b config at 0 → draft.IsStart d at b.opening
+opening_of : (d : draft.DraftWords) (config : LbConfig) (b : Journal) (at : ℕ) → draft.IsConfigOf d config → IsStart b config at 0 → draft.IsDraftStart d at b.opening
 opening_of d config b at is_config start = record {
   config = subst (λ (c : LbConfig). draft.IsConfigOf d c) (sym start.configured) is_config;
   rows = start.rows ∙ ap (λ (c : LbConfig). map draft.start_row c.members) (sym start.configured);

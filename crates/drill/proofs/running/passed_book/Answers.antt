@@ -23,8 +23,8 @@ close_passes-requires g c = record {
       (all_back _ _ _ _ c.args.plan.some_threads c.in_ok-left.ensures.back);
 }
 
-pub returns-in-Ok : goal.returns-in-Ok
-returns-in-Ok g c = record {
+pub returns : goal.returns
+returns g c = record {
   book =
       closed_drill _ _ _ _ _ _ c.in_ok-start.ensures.start (new_origin _ _ _ _ c.args.plan.some_threads c.in_ok-book.ensures) c.in_ok-left.ensures.back c.in-Ok.ensures.closed;
   compared = record {
@@ -32,7 +32,7 @@ returns-in-Ok g c = record {
     counted = c.in_ok-left.ensures.counted.counted;
     once = λ locked. absurd cc;
     own = λ passes.
-        closed_own _ _ _ _ _ _ _ (new_origin _ _ _ _ c.args.plan.some_threads c.in_ok-book.ensures) c.in_ok-left.ensures.back c.in-Ok.ensures.closed
+        closed_own _ _ c.in_ok-start.start _ _ _ _ (new_origin _ _ _ _ c.args.plan.some_threads c.in_ok-book.ensures) c.in_ok-left.ensures.back c.in-Ok.ensures.closed
         c.in_ok-left.ensures.counted.own;
     closed = λ passes.
         record { passes = _; many = c.in_ok-left.ensures.back.count; numbers = c.in_ok-left.ensures.back.numbers; closed = c.in-Ok.ensures.closed };
