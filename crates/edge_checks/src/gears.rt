@@ -70,7 +70,7 @@ fn segment_in(alloc: Global, text: &[u8]) -> Option<Segment> {
 }
 
 /// Whether a file of the system holds these bytes.
-fn holds<F: Files>(alloc: Global, files: &mut F, path: &str, bytes: &[u8]) -> bool {
+pub fn holds<F: Files>(alloc: Global, files: &mut F, path: &str, bytes: &[u8]) -> bool {
     let Ok(name) = Bytes::from_slice(alloc, path.as_bytes()) else {
         return false;
     };

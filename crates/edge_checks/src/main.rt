@@ -1,5 +1,5 @@
 //! Serves over the real edge: sockets of the loopback, files of the directory of the run, and the system's clock. Shows each row
-//! that comes out otherwise, and each claim on what a worker gets of the real world, with whether it holds.
+//! that comes out otherwise, and each claim on what a worker gets of the real world or a person is told of it, with whether it holds.
 //!
 //! The rows stand in crates/edge_checks/data/edge, and what they want comes from the rules, worked out by hand or by
 //! vectors/serving.py. How a row is written stands in docs/FORMATS.md. In each the words order a front, at the port `\2` of the
@@ -21,6 +21,7 @@ mod fronts;
 mod gears;
 mod ports;
 mod rows;
+mod said;
 mod telling;
 
 use anyhow::Result;
@@ -71,5 +72,6 @@ fn main(rt: HostRuntime) -> Result<()> {
         }
     }
     print_count(&rt, shown.as_str(), fits, "rows", FILE)?;
-    gears::judge(&rt, &mut RealWorld::new(&rt, GEARS))
+    gears::judge(&rt, &mut RealWorld::new(&rt, GEARS))?;
+    said::judge(&rt, RealWorld::new(&rt, GEARS))
 }

@@ -1,5 +1,5 @@
 -- Which orders ask for workers, and which are a command at all.
-use Rattle.std.specs.Prelude.{◌≡◌, Bool, true, false, ◌||◌, Result, Ok, Err, IfOk}
+use Rattle.std.specs.Prelude.{◌≡◌, ℕ, Bool, true, false, ◌||◌, List, Option, Some, None, Result, Ok, Err, IfOk}
 use Rattle.jk_cli.specs.declared.order.Order.{Order}
 use Rattle.jk_cli.specs.declared.order.Order.TheVariants as order
 use Rattle.jk_cli.specs.declared.order.WordsError.{WordsError}
@@ -36,3 +36,8 @@ IsNoCommand (Err refused.NoMemory) = ⊥
 abbrev pub reads_files : Order → Bool
 reads_files (order.Serve o) = true
 reads_files other = has_file (readings other)
+
+-- the names of the files of the site that an order serves
+abbrev pub site_names : Order → Option (List ℕ × List ℕ)
+site_names (order.Serve o) = Some (o.workers, o.map)
+site_names other = None

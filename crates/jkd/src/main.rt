@@ -12,11 +12,8 @@
 mod arguments;
 mod demo;
 mod demo_threads;
-mod marked_sink;
 mod outside;
 mod telling;
-mod telling_world;
-mod write_sink;
 
 use arguments::{WordList, WordsError, read_words};
 use demo::DEMO_THREADS;

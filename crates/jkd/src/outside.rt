@@ -8,11 +8,10 @@ ghost use Rattle.jk_commands.specs.Orders.{IfPlain, IfServed, IsNoCommand};
 ghost use Rattle.jk_commands.specs.Plain.{EndsPlain};
 
 use crate::telling::{asks_stop, reason, tell};
-use crate::telling_world::{SiteTeller, TellingWorld};
 use gear_parts::ToldWorld;
 use gear_worlds::{Trouble, World};
 use jk_cli::{CommandName, Order, WordsError};
-use jk_commands::{EndOf, JkdEnd, let_go, run_jkd};
+use jk_commands::{EndOf, JkdEnd, SiteTeller, TellingWorld, let_go, run_jkd};
 use jk_io::{Bytes, Door, Files, Sink, Source};
 use real_io::{RealFiles, StdIn, StdOut};
 use remarks::{CountedInput, Ended, InputSeen, KeptFiles, ReadFile, command_asked};

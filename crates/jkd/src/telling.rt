@@ -1,9 +1,8 @@
 //! The last words on standard error, once a command ended.
-use crate::write_sink::WriteSink;
 use jk_cli::{Order, WordsError};
 use jk_io::NoMemory;
 use real_io::is_of_socket;
-use remarks::{Ended, ReadFile, RemarkOut, remarks_on, unread_file};
+use remarks::{Ended, ReadFile, RemarkOut, WriteSink, remarks_on, unread_file};
 use std::alloc::Global;
 use std::io::{Read, Write};
 use std::net::Net;

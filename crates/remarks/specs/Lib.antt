@@ -1,10 +1,11 @@
 pub mod Added
 pub mod Explained
 pub mod Firsts
+pub mod Lines
 pub mod MapNotices
 pub mod Notices
 pub mod Refused
 pub mod Remarks
-pub mod Wanted
 pub mod Seen
 pub mod Told
+pub mod Wanted

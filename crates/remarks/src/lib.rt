@@ -8,7 +8,7 @@
 //! Contract: `site_remarks`. Read first: specs/Remarks.antt, then specs/Refused.antt, Explained.antt, Notices.antt, MapNotices.antt.
 //! `remarks_on`, a clause for each status, and `cause`; `effects_on`, what of accepted files has no effect; `KeptFiles` and
 //! `CountedInput` are read as what they go round, and keep how a read went (clauses `kept` and `seen`): specs/Told.antt, then
-//! specs/Seen.antt.
+//! specs/Seen.antt. `WriteSink` and `MarkedSink` are sinks over one of std's writers, and tell nothing of what is written.
 //! Errors: a write that failed, only where the sink's count of faults rose, and want of memory.
 #![tactic(auto)]
 
@@ -20,6 +20,7 @@ mod input_seen;
 mod kept_files;
 mod last_read;
 mod map_effects;
+mod marked_sink;
 mod notices;
 mod read_file;
 mod refused;
@@ -31,6 +32,7 @@ mod site_file;
 mod values;
 mod wanted;
 mod words;
+mod write_sink;
 
 pub use asked::command_asked;
 pub use counted_input::CountedInput;
@@ -38,8 +40,10 @@ pub use ended::{Ended, remarks_on};
 pub use input_seen::InputSeen;
 pub use kept_files::KeptFiles;
 pub use last_read::unread_file;
+pub use marked_sink::MarkedSink;
 pub use read_file::{ReadFile, ReadOutcome};
 pub use remark_out::RemarkOut;
 pub use remarks::site_remarks;
 pub use site_effects::effects_on;
 pub use site_file::SiteNames;
+pub use write_sink::WriteSink;

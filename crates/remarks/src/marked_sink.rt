@@ -1,5 +1,6 @@
 //! A sink of which each line begins with `jkd: `.
-ghost use Rattle.std.specs.Prelude.{◌<◌, ◌≤◌, IfSome, length};
+ghost use Rattle.std.specs.Prelude.{◌≡◌, ◌-◌, ◌<◌, ◌≤◌, ◌==◌, IfSome, length, position, slice_index, true};
+ghost use Rattle.remarks.specs.Lines.{first_line};
 
 use crate::write_sink::put_some;
 use jk_io::{IoError, Meanings, Sink};
@@ -10,7 +11,7 @@ const MARK: &[u8] = b"jkd: ";
 
 /// A sink over a writer, which puts the mark before each line. It tells nothing of what is written.
 #[derive(Drop)]
-pub(crate) struct MarkedSink<W: Write + Drop> {
+pub struct MarkedSink<W: Write + Drop> {
     writer: W,
     /// Whether the next byte begins a line.
     begins: bool,
@@ -18,7 +19,9 @@ pub(crate) struct MarkedSink<W: Write + Drop> {
 }
 
 impl<W: Write + Drop> MarkedSink<W> {
-    pub(crate) fn new(writer: W) -> MarkedSink<W> {
+    pub fn new(writer: W) -> MarkedSink<W>
+        ensures { (result.writer ≡ writer) × (result.begins ≡ true) × (result.failed ≡ 0) }
+    {
         MarkedSink {
             writer,
             begins: true,
@@ -64,11 +67,19 @@ fn put_mark<W: Write>(writer: &mut W, begins: &mut bool) -> Option<()> {
     Some(())
 }
 
+/// Where the first line ends, if it does.
+fn line_end(piece: &[u8]) -> Option<usize>
+    ensures { result ≡ position (λ b. b == 10) piece.now }
+{
+    piece.iter().position(|b| *b == b'\n')
+}
+
 /// The piece up to the end of its first line.
 fn first_line(piece: &[u8]) -> &[u8]
-    ensures { length result.now ≤ length piece.now }
+    ensures line { result.now ≡ first_line piece.now }
+    ensures short { length result.now ≤ length piece.now }
 {
-    match piece.iter().position(|b| *b == b'\n') {
+    match line_end(piece) {
         Some(at) => &piece[..at + 1],
         None => piece,
     }
@@ -76,7 +87,9 @@ fn first_line(piece: &[u8]) -> &[u8]
 
 /// How many bytes of the piece one write took, at least one, and none behind its first line.
 fn put_marked<W: Write>(writer: &mut W, begins: &mut bool, piece: &[u8]) -> Option<usize>
-    ensures { IfSome result (λ n. (0 < n) × (n ≤ length piece.now)) }
+    ensures count { IfSome result (λ n. (0 < n) × (n ≤ length piece.now)) }
+    ensures line { IfSome result (λ n. n ≤ length (first_line piece.now)) }
+    ensures begins { IfSome result (λ n. begins.new ≡ (slice_index piece.now (n - 1) == 10)) }
 {
     put_mark(writer, begins)?;
     let n = put_some(writer, first_line(piece))?;

@@ -1,18 +1,20 @@
 //! A sink over one of std's writers.
-ghost use Rattle.std.specs.Prelude.{◌<◌, ◌≤◌, IfSome, length};
+ghost use Rattle.std.specs.Prelude.{◌≡◌, ◌<◌, ◌≤◌, IfSome, length};
 
 use jk_io::{IoError, Meanings, Sink};
 use std::io::{ErrorKind, Write};
 
 /// A sink over a writer. It tells nothing of what is written.
 #[derive(Drop)]
-pub(crate) struct WriteSink<W: Write + Drop> {
+pub struct WriteSink<W: Write + Drop> {
     writer: W,
     failed: u64,
 }
 
 impl<W: Write + Drop> WriteSink<W> {
-    pub(crate) fn new(writer: W) -> WriteSink<W> {
+    pub fn new(writer: W) -> WriteSink<W>
+        ensures { (result.writer ≡ writer) × (result.failed ≡ 0) }
+    {
         WriteSink { writer, failed: 0 }
     }
 }

@@ -1,27 +1,30 @@
 //! A world that says on standard error, before a site is served, which lines of its files have no effect.
-ghost use Rattle.std.specs.Prelude.{◌≡◌, ◌+◌, ◌<◌, [], ◌∷◌};
+ghost use Rattle.std.specs.Prelude.{◌≡◌, ◌+◌, ◌<◌, [], ◌∷◌, None, Some, IfOk, IfSome, IsOkAnd};
 ghost use Rattle.jk_io.specs.Told.{appended};
+ghost use Rattle.jk_commands.specs.Orders.{site_names};
 
-use crate::marked_sink::MarkedSink;
-use gear_parts::{GearOf, GearOrder};
-use gear_worlds::World;
+use gear_parts::{GearOf, GearOrder, World};
 use jk_cli::{Order, WordsError};
 use jk_io::{Bytes, IoError};
-use remarks::{RemarkOut, SiteNames, effects_on};
+use remarks::{MarkedSink, RemarkOut, SiteNames, effects_on};
 use site_reports::AcceptedSite;
 use std::alloc::Global;
 use std::io::Write;
 
 /// The names of the files of a site that is to be served, and where it is said what in them has no effect.
 #[derive(Drop)]
-pub(crate) struct SiteTeller<'n, E: Write + Drop> {
+pub struct SiteTeller<'n, E: Write + Drop> {
     names: SiteNames<'n>,
     err: E,
 }
 
 impl<'n, E: Write + Drop> SiteTeller<'n, E> {
     /// For the files of this order; none where it serves no site.
-    pub(crate) fn of(asked: &'n Result<Order, WordsError>, err: E) -> Option<SiteTeller<'n, E>> {
+    pub fn of(asked: &'n Result<Order, WordsError>, err: E) -> Option<SiteTeller<'n, E>>
+        ensures none { result ≡ None → IfOk asked.now (λ o. site_names o ≡ None) }
+        ensures some { IfSome result (λ teller. IsOkAnd asked.now (λ o.
+            site_names o ≡ Some (teller.names.workers.now, teller.names.map.now))) }
+    {
         let Ok(Order::Serve(order)) = asked else {
             return None;
         };
@@ -44,20 +47,20 @@ impl<'n, E: Write + Drop> SiteTeller<'n, E> {
 
 /// A world as the one within, which tells once of the site that it is shown.
 #[derive(Drop)]
-pub(crate) struct TellingWorld<'n, W: World + Drop, E: Write + Drop> {
+pub struct TellingWorld<'n, W: World + Drop, E: Write + Drop> {
     world: W,
     teller: Option<SiteTeller<'n, E>>,
 }
 
 impl<'n, W: World + Drop, E: Write + Drop> TellingWorld<'n, W, E> {
-    pub(crate) fn new(world: W, teller: Option<SiteTeller<'n, E>>) -> TellingWorld<'n, W, E>
-        ensures { result.world ≡ world }
+    pub fn new(world: W, teller: Option<SiteTeller<'n, E>>) -> TellingWorld<'n, W, E>
+        ensures { (result.world ≡ world) × (result.teller ≡ teller.entry) }
     {
         TellingWorld { world, teller }
     }
 
     /// The world within.
-    pub(crate) fn into_world(self) -> W
+    pub fn into_world(self) -> W
         ensures { result ≡ self.entry.world }
     {
         let TellingWorld { world, teller: _ } = self;
