@@ -281,7 +281,14 @@ impl<
         let names = names_of(alloc, cfg.lbs.as_slice())?;
         let notices = self.notices(alloc, Some(cfg))?;
         let turns = self.turns(alloc, cfg.lbs.len())?;
-        let shelf = FileShelf::new(self.rt, RealNewFiles::new(self.rt), dir.copy()?, names, notices, turns);
+        let shelf = FileShelf::new(
+            self.rt,
+            RealNewFiles::new(self.rt),
+            dir.copy()?,
+            names,
+            notices,
+            turns,
+        );
         Ok(RealShelf::Files(shelf))
     }
 
