@@ -28,7 +28,7 @@ use Rattle.ajp_talk.proofs.AskLaws.{traffic-none, traffic-came, traffic-sent, fr
 use Rattle.ajp_talk.proofs.CourseLaws.{answer-length, front-length}
 use Rattle.ajp_talk.proofs.TurnLaws.{failed_with, below-limit}
 
-ping-is : (plan : TalkPlan) → plan.ping ≡ true → ping_of plan ≡ packet false (10 ∷ [])
+pub ping-is : (plan : TalkPlan) → plan.ping ≡ true → ping_of plan ≡ packet false (10 ∷ [])
 ping-is plan e = cond-true plan.ping (packet false (10 ∷ [])) [] e
 
 pong-of : (plan : TalkPlan) → plan.ping ≡ true → pong_of plan ≡ packet true (9 ∷ [])

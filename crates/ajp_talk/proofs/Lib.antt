@@ -8,6 +8,7 @@ pub mod EndLaws
 pub mod SendingLaws
 pub mod LostLaws
 pub mod GreetingLaws
+pub mod AwaitLaws
 pub mod TalkLaws
 pub mod DrainLaws
 pub mod CompleteLaws

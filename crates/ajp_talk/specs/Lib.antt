@@ -3,6 +3,7 @@ pub mod Uploads
 pub mod Replies
 pub mod Owed
 pub mod Talk
+pub mod Awaits
 pub mod Turns
 pub mod Courses
 pub mod Hearing

@@ -1,8 +1,10 @@
 //! CPing, and CPong that must answer it.
 
-ghost use Rattle.std.specs.Prelude.{◌≡◌, ◌<◌, true, IsOk};
+ghost use Rattle.std.specs.Prelude.{◌≡◌, ◌<◌, true, [], IsOk};
 ghost use Rattle.ajp_wire.specs.Moments.{link_at};
+ghost use Rattle.ajp_talk.specs.Awaits.{IsAwaitedAfter};
 ghost use Rattle.ajp_talk.specs.Moments.{KeepsLink};
+ghost use Rattle.ajp_talk.specs.Owed.{ping_of};
 ghost use Rattle.ajp_talk.specs.Turns.{IsGreeting, pong_only as pong_only_of};
 
 use crate::awaiting::await_on;
@@ -32,8 +34,8 @@ pub(crate) fn greet<L: Link>(
     ensures keeps { KeepsLink L.Meanings line.old line.new }
 
     // Before a byte of it is read, the link is told how long CPong is waited for.
-    ensures awaits { IsOk result → plan.now.ping ≡ true → (before : L) × (after : L) × L.heard before (Awaited.Pong plan.now.limits.pong) after
-        × (L.received after ≡ L.received line.old) }
+    ensures awaits { IsOk result → plan.now.ping ≡ true
+        → IsAwaitedAfter L.Meanings L.heard line.old [] (ping_of plan.now) (Awaited.Pong plan.now.limits.pong) }
 {
     if !plan.ping {
         return Ok(());

@@ -1,8 +1,9 @@
 //! `talk`: one try of a request on one link, from its first byte to its end.
 
-ghost use Rattle.std.specs.Prelude.{◌≡◌, ◌<◌, None, length};
+ghost use Rattle.std.specs.Prelude.{◌≡◌, ◌<◌, None, IfSome, length};
 ghost use Rattle.http_front.specs.State.{failed_of, taken_of};
 ghost use Rattle.ajp_wire.specs.Moments.{link_at};
+ghost use Rattle.ajp_talk.specs.Awaits.{AwaitsReply, HasHeard};
 ghost use Rattle.ajp_talk.specs.Complete.{Completes};
 ghost use Rattle.ajp_talk.specs.Courses.{BeginsCourse, fresh};
 ghost use Rattle.ajp_talk.specs.Drains.{IsLostCourse, IsLostEnd};
@@ -49,6 +50,9 @@ pub fn talk<L: Link, C: Link>(
         Completes plan.now (at line.old client.old body.old inbox.old) (at line.new client.new body.new inbox.new) result }
 
     ensures beside { (L.beside line.new ≡ L.beside line.old) × (C.beside client.new ≡ C.beside client.old) }
+
+    // Before a byte of CPong, and then of the reply, is read, the link is told how long it is waited for.
+    ensures awaits { HasHeard result → AwaitsReply L.Meanings L.heard plan.now line.old }
 {
     let mut room = Room::new(alloc);
     let mut course = Course::new(alloc, plan, 0, 0);
@@ -79,7 +83,9 @@ fn begin<L: Link>(
     ensures keeps { KeepsLink L.Meanings line.old line.new }
 
     // The last that the link was told is how long the reply is waited for.
-    ensures awaits { result ≡ None → (before : L) × L.heard before (Awaited.Reply plan.now.limits.reply) line.new }
+    ensures awaits { result ≡ None → AwaitsReply L.Meanings L.heard plan.now line.old }
+    ensures last { result ≡ None → (before : L) × L.heard before (Awaited.Reply plan.now.limits.reply) line.new }
+    ensures unheard { IfSome result (λ end. HasHeard end → ⊥) }
 {
     match greet(room, plan, line, &mut course.sent, &mut course.received) {
         Ok(()) => {}

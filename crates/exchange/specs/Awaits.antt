@@ -1,15 +1,17 @@
 -- What the two sides of an exchange are told that is waited for: the reach before each talk, the client before its body is read.
-use Rattle.std.specs.Prelude.{◌≡◌, ◌≢◌, ◌⊎◌, ℕ, List, [], ◌∷◌, Option, Some, slice_get}
-use Rattle.jk_io.specs.Told.{appended}
+use Rattle.std.specs.Prelude.{◌≡◌, ◌≢◌, ◌⊎◌, ℕ, Bool, List, [], ◌∷◌, Option, Some, slice_get}
+use Rattle.jk_io.specs.Told.{appended, IsEmpty}
 use Rattle.jk_io.specs.declared.reaching.Beside.{Beside}
 use Rattle.jk_io.specs.declared.reaching.Talk.{Talk}
 use Rattle.jk_io.specs.declared.traits.streams.Awaited.{Awaited}
 use Rattle.jk_io.specs.declared.traits.streams.Awaited.TheVariants as awaited
 use Rattle.jk_io.specs.declared.traits.streams.Meanings.{Ghosts}
+use Rattle.ajp_talk.specs.Awaits.{AwaitsReply}
+use Rattle.ajp_talk.specs.declared.plan.TalkPlan.{TalkPlan}
 use Rattle.forwarding.specs.FirstPiece.{first_len}
 use Rattle.site_config.specs.declared.balancer.Lb.{Lb}
 use Rattle.site_config.specs.declared.endpoint.Endpoint.{Endpoint}
-use Rattle.exchange.specs.OneTalk.{dial_for}
+use Rattle.exchange.specs.OneTalk.{dial_for, plan_on}
 use Rattle.exchange.specs.declared.request.Request.{Request}
 use Rattle.exchange.specs.declared.sides.Means.{Means}
 use Rattle.exchange.specs.declared.target.Target.{Target}
@@ -17,6 +19,14 @@ use Rattle.exchange.specs.declared.target.Target.{Target}
 -- a link was told this next
 abbrev pub HearsNext : {L : Type 0} → (heard : L → Awaited → L → Type 0) → L → Awaited → Type 0
 HearsNext {L} heard before what = (after : L) × heard before what after
+
+-- A talk was begun on a link of the reach over which nothing had come or gone. The link was told how long CPong and the reply are
+-- waited for, by the plan of a talk with this member on that link.
+pub record AwaitsBegun {R : Type 0} (told : Ghosts R Beside) (heard : R → Awaited → R → Type 0) (plan : TalkPlan) (endpoint : Endpoint) : Type 0 where
+  pub dialled : Bool
+  pub begun : R
+  pub nothing_yet : IsEmpty (told.sent begun) × IsEmpty (told.received begun)
+  pub awaits : AwaitsReply told heard (plan_on plan endpoint dialled) begun
 
 -- A dial for this talk may take so long: its member, of these balancers, is so configured.
 pub record IsDialOf (lbs : List Lb) (talk : Talk) (what : Awaited) : Type 0 where

@@ -1,7 +1,8 @@
 //! One talk with a member: a link is had, the talk is held on it, and the link is kept or closed.
 ghost use Rattle.std.specs.Prelude.{◌≡◌};
+ghost use Rattle.ajp_talk.specs.Awaits.{HasHeard};
 ghost use Rattle.ajp_talk.specs.Ends.{IsPlan};
-ghost use Rattle.exchange.specs.Awaits.{HearsNext};
+ghost use Rattle.exchange.specs.Awaits.{AwaitsBegun, HearsNext};
 ghost use Rattle.exchange.specs.Keeping.{KeepsSides, MayTalk};
 ghost use Rattle.exchange.specs.Means.{around_of};
 ghost use Rattle.exchange.specs.OneTalk.{IsOneTalk, IsPlanOf, dial_for, keeps as keeps_link, no_link as end_without_link, pings as pings_first, pong_limit as pong_limit_for};
@@ -32,6 +33,9 @@ pub(crate) fn one_talk<R: Reach, C: Link>(
 
     // Before it begins, the reach is told how long a dial of this member may take.
     ensures awaits { HearsNext R.heard sides.old.reach.now (dial_for to.now.endpoint.now) }
+
+    // Once it is begun its link is told how long CPong and the reply are waited for, before a byte of either is read.
+    ensures heard { HasHeard result → AwaitsBegun R.Meanings R.heard plan.entry.now to.now.endpoint.now }
 {
     let endpoint = to.endpoint;
     sides.reach.await_next(dial_of(endpoint));

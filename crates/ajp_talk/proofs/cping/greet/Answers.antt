@@ -2,6 +2,7 @@
 use Rattle.ajp_talk.proofs.GreetingLaws.{heard_pong, ping_line, ping_wanted, unheard_pong}
 use Rattle.jk_io.specs.Moments.{Moment}
 use Rattle.ajp_wire.specs.Moments.{link_at}
+use Rattle.ajp_talk.proofs.AwaitLaws.{pong_awaited}
 use Rattle.ajp_talk.proofs.cping.greet.Goals as goal
 
 pub returns-in-Err-Failed-clause-greeting : goal.returns-in-Err-Failed-clause-greeting
@@ -30,3 +31,7 @@ returns-in-Ok-receive-clause-greeting g c =
     rw c.pong_only.ensures
     (heard_pong c.args.plan.now _ after _ c.args.sent.now c.send.new.sent c.args.received.now c.receive.new.count c.in-Ok-receive.message
     c.if-not-plan.false c.requires.none_sent c.requires.none_received c.in-Ok.ensures.sent.0 c.in-Ok.ensures.sent.1 (rw c.await_on.ensures.same at c.in-Ok-receive.ensures.heard))
+
+pub returns-in-Ok-receive-clause-awaits : goal.returns-in-Ok-receive-clause-awaits
+returns-in-Ok-receive-clause-awaits g c = λ answered pings.
+    pong_awaited g.L.Meanings g.L.Link.heard c.args.plan.now c.args.line.now c.send.new.line _ _ c.args.sent.now c.send.new.sent pings c.in-Ok.ensures.sent.0 c.await_on.ensures.heard c.await_on.ensures.same

@@ -116,3 +116,14 @@ returns-in-Lost-clause-beside g c =
     let s = c.step.ensures.keeps in
     let l = c.lost.ensures.keeps in
     (l.0.beside ∙ s.0.beside ∙ i.line_beside, l.1.beside ∙ s.1.beside ∙ i.client_beside)
+
+-- ---- what the link is told
+
+pub returns-in-Some-clause-awaits : goal.returns-in-Some-clause-awaits
+returns-in-Some-clause-awaits g c = λ heard. absurd (c.in-Some.ensures.unheard heard)
+
+pub returns-in-Lost-clause-awaits : goal.returns-in-Lost-clause-awaits
+returns-in-Lost-clause-awaits g c = λ heard. c.in-None.ensures.awaits refl
+
+pub returns-in_default-clause-awaits : goal.returns-in_default-clause-awaits
+returns-in_default-clause-awaits g c = λ heard. c.in-None.ensures.awaits refl

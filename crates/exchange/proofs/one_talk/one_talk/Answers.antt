@@ -15,3 +15,14 @@ returns-clause-talk g c =
     (rw (c.pings-plan.ensures, c.pong_limit-plan.ensures) at c.talk-end.ensures.talk.talk) (rw (c.pings-plan.ensures, c.pong_limit-plan.ensures) at c.talk-end.ensures.complete)
     c.in-Ok.ensures.begun c.talk-end.ensures.beside.0 (c.in-Ok.ensures.ok ∙ ap (λ (b : Beside). b.talks) c.await_next.ensures.same.0) (rw c.keeps.ensures at c.finish.ensures.noted)
     (c.in-Ok.ensures.steady refl ∙ c.await_next.ensures.same.1) c.talk-end.ensures.talk.line c.finish.ensures.same_faults c.talk-end.ensures.talk.client c.talk-end.ensures.talk.calm
+
+pub returns-clause-heard : goal.returns-clause-heard
+returns-clause-heard g c = λ had. record {
+  dialled = c.in-Ok.dialled;
+  begun = c.begin.new.self;
+  nothing_yet = c.begin.ensures.nothing_yet;
+  awaits = rw (c.pings-plan.ensures, c.pong_limit-plan.ensures) at (c.talk-end.ensures.awaits had);
+}
+
+pub returns-in-Err-Failed-clause-heard : goal.returns-in-Err-Failed-clause-heard
+returns-in-Err-Failed-clause-heard g c = rw c.no_link.ensures (λ had. absurd cc)
