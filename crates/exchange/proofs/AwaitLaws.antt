@@ -11,7 +11,7 @@ use Rattle.ajp_talk.specs.declared.ending.TalkEnd.{TalkEnd}
 use Rattle.ajp_talk.specs.declared.plan.TalkPlan.{TalkPlan}
 use Rattle.site_config.specs.declared.balancer.Lb.{Lb}
 use Rattle.site_config.specs.declared.endpoint.Endpoint.{Endpoint}
-use Rattle.exchange.specs.Awaits.{AwaitsDials, HaveAwaited, HearsNext, IsDialOf}
+use Rattle.exchange.specs.Awaits.{AwaitsDials, HaveAwaited, HearsNext}
 use Rattle.exchange.specs.OneTalk.{Around, IsOneTalk, dial_for}
 use Rattle.exchange.proofs.GrowLaws.{held_noted, note_of}
 

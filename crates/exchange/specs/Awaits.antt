@@ -1,5 +1,5 @@
 -- What the two sides of an exchange are told that is waited for: the reach before each talk, the client before its body is read.
-use Rattle.std.specs.Prelude.{◌≡◌, ◌≢◌, ◌⊎◌, ℕ, Bool, List, [], ◌∷◌, Option, Some, slice_get}
+use Rattle.std.specs.Prelude.{◌≡◌, ◌≢◌, ◌⊎◌, Bool, List, [], ◌∷◌, Some, slice_get}
 use Rattle.jk_io.specs.Told.{appended, IsEmpty}
 use Rattle.jk_io.specs.declared.reaching.Beside.{Beside}
 use Rattle.jk_io.specs.declared.reaching.Talk.{Talk}
