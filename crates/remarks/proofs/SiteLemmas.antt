@@ -4,7 +4,7 @@ use Rattle.std.proofs.lemmas.List.{take_all}
 use Rattle.site_reports.specs.declared.found.SiteFound.{SiteFound}
 use Rattle.remarks.specs.declared.read_file.ReadFile.{ReadFile}
 use Rattle.remarks.specs.Remarks.{remarks_of}
-use Rattle.remarks.specs.Told.{SaysFound, first_name}
+use Rattle.remarks.specs.Said.{SaysFound, first_name}
 
 -- the remarks by the names of two files are those by the names of the files that were read
 pub says_found : (effects : Bool) (f : SiteFound) (reads : List ReadFile) (first : ReadFile) (second : List ℕ) → 1 ≤ length reads

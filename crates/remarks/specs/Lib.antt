@@ -6,6 +6,6 @@ pub mod MapNotices
 pub mod Notices
 pub mod Refused
 pub mod Remarks
+pub mod Said
 pub mod Seen
-pub mod Told
 pub mod Wanted

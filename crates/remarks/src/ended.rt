@@ -3,7 +3,7 @@ ghost use Rattle.std.specs.Prelude.{◌≡◌, ◌≢◌, [], IfOk, IsOk, None, 
 ghost use Rattle.std.specs.Option.{option_copied};
 ghost use Rattle.jk_io.specs.Told.{HasCause};
 ghost use Rattle.remarks.specs.Added.{Adds, AddsSaid, AddsSome, AddsText};
-ghost use Rattle.remarks.specs.Told.{IsLine, SaysEffects, SaysRefused, fault_of, fault_text, too_long_text, unread_name, unread_text};
+ghost use Rattle.remarks.specs.Said.{IsLine, SaysEffects, SaysRefused, fault_of, fault_text, too_long_text, unread_name, unread_text};
 
 use crate::input_seen::InputSeen;
 use crate::last_read::{long_file, unended_file, unread_file};

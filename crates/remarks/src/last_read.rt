@@ -1,7 +1,7 @@
 //! How the last read of a file went.
 ghost use Rattle.std.specs.Prelude.{◌≡◌};
 ghost use Rattle.std.specs.Option.{option_map};
-ghost use Rattle.remarks.specs.Told.{long_name, unended_name, unread_name};
+ghost use Rattle.remarks.specs.Said.{long_name, unended_name, unread_name};
 
 use crate::read_file::{ReadFile, ReadOutcome};
 use jk_cli::CommandName;

@@ -7,7 +7,7 @@
 //! refused one. Nothing here changes what the command reads, writes or answers.
 //! Contract: `site_remarks`. Read first: specs/Remarks.antt, then specs/Refused.antt, Explained.antt, Notices.antt, MapNotices.antt.
 //! `remarks_on`, a clause for each status, and `cause`; `effects_on`, what of accepted files has no effect; `KeptFiles` and
-//! `CountedInput` are read as what they go round, and keep how a read went (clauses `kept` and `seen`): specs/Told.antt, then
+//! `CountedInput` are read as what they go round, and keep how a read went (clauses `kept` and `seen`): specs/Said.antt, then
 //! specs/Seen.antt. `WriteSink` and `MarkedSink` are sinks over one of std's writers, and tell nothing of what is written.
 //! Errors: a write that failed, only where the sink's count of faults rose, and want of memory.
 #![tactic(auto)]

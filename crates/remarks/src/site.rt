@@ -1,7 +1,7 @@
 //! Remarks on the files of a site that a command read.
 ghost use Rattle.std.specs.Prelude.{◌≡◌};
 ghost use Rattle.std.specs.Option.{option_copied};
-ghost use Rattle.remarks.specs.Told.{SaysEffects, SaysFound, SaysPlaced, first_name, site_place};
+ghost use Rattle.remarks.specs.Said.{SaysEffects, SaysFound, SaysPlaced, first_name, site_place};
 ghost use Rattle.remarks.specs.Added.{AddsSome};
 
 use crate::read_file::ReadFile;

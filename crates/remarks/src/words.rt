@@ -1,6 +1,6 @@
 //! Remarks on words that are no command.
 ghost use Rattle.std.specs.Prelude.{IfOk};
-ghost use Rattle.remarks.specs.Told.{IsLine};
+ghost use Rattle.remarks.specs.Said.{IsLine};
 
 use crate::values::said_of_values;
 use clap::Error;
