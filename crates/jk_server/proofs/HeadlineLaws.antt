@@ -12,7 +12,6 @@ use Rattle.lb_model.specs.declared.segment.Segment.{Segment}
 use Rattle.lb_book.specs.Journal.{Journal}
 use Rattle.lb_book.specs.PlainDesks.{AreLegal}
 use Rattle.lb_book.specs.Returned.{AreReturned, HaveReturned}
-use Rattle.lb_book.specs.declared.receipt.Receipt.{Receipt}
 use Rattle.lb_book.proofs.HistoryLaws.{whole_of}
 use Rattle.client_session.specs.Requests.{Visit}
 use Rattle.lb_shared.specs.Histories.{IsSiteHistory, SeatNote, Step, cuts_seen, entries_of, noted, own_cuts, own_in, starts_of}
@@ -21,6 +20,7 @@ use Rattle.request_log.specs.declared.format.Part.{Part as FormatPart}
 use Rattle.request_log.specs.LogStates.{LogState}
 use Rattle.gear_parts.specs.Gears.{GearSide}
 use Rattle.jk_server.specs.Closings.{Closes, KeepsFirst, Shelves, ShelvesFront}
+use Rattle.jk_server.specs.Awaits.{unheard}
 use Rattle.jk_server.specs.Headline.{AreEnded, AreLegalFrom, AreSessions, HasBooks, HaveCut, IsHeadline, IsOneList, MetNoStray, NamesItsStray, cuts_in, told_in}
 use Rattle.jk_server.specs.Runs.{AreServedGears}
 use Rattle.jk_server.specs.Served.{Run}
@@ -52,11 +52,11 @@ have_served visits told of format number (b ∷ before) (a ∷ after) (s ∷ sea
       own = (served.0.own, rest.own);
       cut = (served.0.cut, rest.cut);
       back = (
-        served_back (visits number) told of b.door a.door served.0.from served.0.to served.0.served.runs e served.0.served.why served.0.served.sessions served.0.fresh.no_stray.1,
+        served_back (visits number) (unheard told) of b.door a.door served.0.from served.0.to served.0.served.runs e served.0.served.why served.0.served.sessions served.0.fresh.no_stray.1,
         rest.back,
       );
       strays = (
-        served_names (visits number) told of b.door a.door served.0.from served.0.to served.0.served.runs e served.0.served.why served.0.served.sessions served.0.fresh.no_stray.1,
+        served_names (visits number) (unheard told) of b.door a.door served.0.from served.0.to served.0.served.runs e served.0.served.why served.0.served.sessions served.0.fresh.no_stray.1,
         rest.strays,
       );
     }

@@ -1,3 +1,4 @@
+pub mod AwaitLaws
 pub mod BookLaws
 pub mod CommandLaws
 pub mod CutLaws

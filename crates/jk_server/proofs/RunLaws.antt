@@ -1,10 +1,10 @@
 -- Clients that a worker has served so far, and what it makes of the door's next answer.
-use Rattle.std.proofs.Common.{ℕ, ◌≡◌, ◌<◌, ◌≤◌, ◌+◌, true, false, min, List, [], ◌∷◌, ◌++◌, ◌⊎◌, length, map, Option, Some, None, inl, inr, refl, sym, ap, subst, ◌∙◌, arith}
+use Rattle.std.proofs.Common.{ℕ, ◌≡◌, ◌<◌, ◌≤◌, ◌+◌, false, min, List, [], ◌∷◌, ◌++◌, ◌⊎◌, length, map, Option, Some, None, inl, inr, refl, sym, ap, subst, ◌∙◌, arith}
 use Rattle.std.specs.Prelude.{IfSome, IsSome}
 use Rattle.std.proofs.lemmas.List.{length-append, map-append}
 use Rattle.std.proofs.lemmas.List.Elements.{All-nil, All-push}
 use Rattle.jk_io.specs.Looks.{LookTimes}
-use Rattle.jk_io.specs.Told.{appended, IsEmpty, Rose}
+use Rattle.jk_io.specs.Told.{IsEmpty, Rose}
 use Rattle.jk_io.specs.declared.reaching.Beside.{Beside}
 use Rattle.jk_io.specs.declared.traits.streams.Meanings.{Ghosts}
 use Rattle.jk_io.specs.declared.failures.IoError.{IoError}
@@ -26,9 +26,12 @@ use Rattle.lb_shared.specs.SharedDesks.{SharedState}
 use Rattle.site_config.specs.declared.config.Config.{Config}
 use Rattle.status_worker.specs.Desks.{KeepsTickets}
 use Rattle.site_mounts.specs.declared.rule.Rule.{Rule}
+use Rattle.exchange.specs.Awaits.{AwaitsDials}
 use Rattle.exchange.specs.Requests.{sizes_of}
+use Rattle.exchange.proofs.AwaitLaws.{awaits_none, awaits_twice}
 use Rattle.gear_parts.specs.Logs.{BreaksLoudly, LogTells}
 use Rattle.gear_parts.specs.declared.part.Part.{Part}
+use Rattle.jk_server.specs.Awaits.{LinkTells}
 use Rattle.jk_server.specs.PartTells.{PartTells, visit_at, worker_of}
 use Rattle.jk_server.specs.Served.{EndsAtLast, EndsBy, WorkerGoesOn, HaveRested, IsRun, IsServed, IsStray, left_by, Run, ServesClient, ServesNext, ServesOn, ServesPartNext, Settles, SettlesBy}
 use Rattle.jk_server.specs.Turns.{EndsAtRest, GoesOrEnds, IsUnderWay, KeepsTurning, LeavesClient, RestsPart, TurnsPart}
@@ -37,7 +40,7 @@ use Rattle.jk_server.specs.declared.part.Post.{Post}
 use Rattle.jk_server.specs.declared.part.WorkerEnd.{WorkerEnd}
 use Rattle.jk_server.specs.declared.part.WorkerEnd.TheVariants as worker
 
-pub begins : {C S Y X : Type 0} → (visit : Peer → Visit) (told : Ghosts C X) (of : WorkerTells S Y) (door : DoorSide C) (s : WorkerSide S Y)
+pub begins : {C S Y X : Type 0} → (visit : Peer → Visit) (told : LinkTells C X) (of : WorkerTells S Y) (door : DoorSide C) (s : WorkerSide S Y)
     → of.log.broken_by s.log ≡ None → IsUnderWay visit told of door door s s 0
 begins visit told of door s logged = record {
   runs = [];
@@ -59,13 +62,13 @@ rested_more of s m n (x ∷ runs) r rested from goes rests =
     (rested.0, rested.1, rested.2, rested.3, rested_more of rested.0 m n runs r rested.4 from goes rests)
 
 -- the client that came, was served and was left
-abbrev run_of : {C S Y L X : Type 0} → (visit : Peer → Visit) (told : Ghosts C X) (of : WorkerTells S Y) (mid after : DoorSide C) (s n : WorkerSide S Y) (link : C) (peer : Peer) (end : Option (WorkerEnd L))
+abbrev run_of : {C S Y L X : Type 0} → (visit : Peer → Visit) (told : LinkTells C X) (of : WorkerTells S Y) (mid after : DoorSide C) (s n : WorkerSide S Y) (link : C) (peer : Peer) (end : Option (WorkerEnd L))
     → ServesClient visit told of mid after s n link peer end → Run C S Y
 run_of visit told of mid after s n link peer end serves =
     record { link = link; peer = peer; back = serves.back; from = serves.from; to = serves.to; end = serves.session_end }
 
 -- the clients with this one
-clients_more : {C S Y L X : Type 0} → (visit : Peer → Visit) (told : Ghosts C X) (of : WorkerTells S Y) (first before mid after : DoorSide C) (s n : WorkerSide S Y) (runs : List (Run C S Y)) (link : C) (peer : Peer) (end : Option (WorkerEnd L))
+clients_more : {C S Y L X : Type 0} → (visit : Peer → Visit) (told : LinkTells C X) (of : WorkerTells S Y) (first before mid after : DoorSide C) (s n : WorkerSide S Y) (runs : List (Run C S Y)) (link : C) (peer : Peer) (end : Option (WorkerEnd L))
     → GaveAndGot first before (map (λ (r : Run C S Y). (r.link, r.peer)) runs) (map (λ (r : Run C S Y). r.back) runs) → Gives before mid link peer
     → (serves : ServesClient visit told of mid after s n link peer end)
     → GaveAndGot first after (map (λ (r : Run C S Y). (r.link, r.peer)) (runs ++ run_of visit told of mid after s n link peer end serves ∷ []))
@@ -80,7 +83,7 @@ clients_more {C} {S} {Y} visit told of first before mid after s n runs link peer
 same_side : {S Y : Type 0} → (to n : WorkerSide S Y) → n ≡ record to { desk = n.desk } → n.desk ≡ to.desk → n ≡ to
 same_side {S} {Y} to n same desk = same ∙ ap (λ (d : SharedState S). record to { desk = d }) desk
 
-pub goes_on : {C S Y L X : Type 0} → (visit : Peer → Visit) (told : Ghosts C X) (of : WorkerTells S Y) (first before mid after : DoorSide C) (s m n k : WorkerSide S Y) (count next : ℕ) (link : C) (peer : Peer) (then : DoorSide C)
+pub goes_on : {C S Y L X : Type 0} → (visit : Peer → Visit) (told : LinkTells C X) (of : WorkerTells S Y) (first before mid after : DoorSide C) (s m n k : WorkerSide S Y) (count next : ℕ) (link : C) (peer : Peer) (then : DoorSide C)
     → IsUnderWay visit told of first before s m count → Gives before mid link peer
     → ServesClient {L = L} visit told of mid after m n link peer None → Rests n k
     → then ≡ after → next ≡ min (count + 1) 18446744073709551615 → IsUnderWay visit told of first then s k next
@@ -103,14 +106,14 @@ goes_on {C} {S} {Y} {L} visit told of first before mid after s m n k count next 
     })
 
 -- it rested, and the reach wanted memory
-pub rest_wants : {C S Y L X : Type 0} → (visit : Peer → Visit) (told : Ghosts C X) (of : WorkerTells S Y) (first now : DoorSide C) (s n : WorkerSide S Y) (count : ℕ)
+pub rest_wants : {C S Y L X : Type 0} → (visit : Peer → Visit) (told : LinkTells C X) (of : WorkerTells S Y) (first now : DoorSide C) (s n : WorkerSide S Y) (count : ℕ)
     → IsUnderWay visit told of first now s n count → IsServed {L = L} visit told of first now s n worker.NoMemory
 rest_wants visit told of first now s n count way =
     record { runs = way.runs; clients = way.clients; sessions = way.sessions; why = (inl way.rested, way.steady) }
 
 -- ---- the end right after a session
 
-ends_at_last : {C S Y L X : Type 0} → (visit : Peer → Visit) (told : Ghosts C X) (of : WorkerTells S Y) (mid after : DoorSide C) (s m n : WorkerSide S Y) (runs : List (Run C S Y)) (link : C) (peer : Peer) (end : WorkerEnd L)
+ends_at_last : {C S Y L X : Type 0} → (visit : Peer → Visit) (told : LinkTells C X) (of : WorkerTells S Y) (mid after : DoorSide C) (s m n : WorkerSide S Y) (runs : List (Run C S Y)) (link : C) (peer : Peer) (end : WorkerEnd L)
     → HaveRested of s runs m → (serves : ServesClient visit told of mid after m n link peer (Some end))
     → EndsAtLast of s n (runs ++ run_of visit told of mid after m n link peer (Some end) serves ∷ []) end
 ends_at_last {C} {S} {Y} visit told of mid after s m n runs link peer end rested serves = record {
@@ -134,7 +137,7 @@ ends_by of before after s n runs worker.LogFault at steady = (at, steady)
 ends_by of before after s n runs (worker.Stray stray) at steady = (at, steady)
 ends_by of before after s n runs worker.NoMemory at steady = (inr at, steady)
 
-pub ends : {C S Y L X : Type 0} → (visit : Peer → Visit) (told : Ghosts C X) (of : WorkerTells S Y) (first before mid after : DoorSide C) (s m n : WorkerSide S Y) (count : ℕ) (link : C) (peer : Peer) (end : WorkerEnd L)
+pub ends : {C S Y L X : Type 0} → (visit : Peer → Visit) (told : LinkTells C X) (of : WorkerTells S Y) (first before mid after : DoorSide C) (s m n : WorkerSide S Y) (count : ℕ) (link : C) (peer : Peer) (end : WorkerEnd L)
     → IsUnderWay visit told of first before s m count → Gives before mid link peer
     → ServesClient visit told of mid after m n link peer (Some end) → IsServed visit told of first after s n end
 ends visit told of first before mid after s m n count link peer end way gives serves = record {
@@ -219,7 +222,7 @@ parts_again d d' parts is same = rw same is
 
 -- ---- the door gives none
 
-pub closes : {C S Y L X : Type 0} → (visit : Peer → Visit) (told : Ghosts C X) (of : WorkerTells S Y) (first before after : DoorSide C) (s n : WorkerSide S Y) (count : ℕ)
+pub closes : {C S Y L X : Type 0} → (visit : Peer → Visit) (told : LinkTells C X) (of : WorkerTells S Y) (first before after : DoorSide C) (s n : WorkerSide S Y) (count : ℕ)
     → IsUnderWay visit told of first before s n count → GivesNone before after × IsEmpty after.coming → after.faults ≡ before.faults
     → IsServed {L = L} visit told of first after s n (worker.Closed count)
 closes visit told of first before after s n count way none steady = record {
@@ -232,7 +235,7 @@ closes visit told of first before after s n count way none steady = record {
 rose_since : (first before now : ℕ) → first ≤ before → Rose before now → Rose first now
 rose_since first before now earlier rose = omega (arith, earlier, rose)
 
-pub fails : {C S Y L X : Type 0} → (visit : Peer → Visit) (told : Ghosts C X) (of : WorkerTells S Y) (first before after : DoorSide C) (s n : WorkerSide S Y) (count : ℕ)
+pub fails : {C S Y L X : Type 0} → (visit : Peer → Visit) (told : LinkTells C X) (of : WorkerTells S Y) (first before after : DoorSide C) (s n : WorkerSide S Y) (count : ℕ)
     → IsUnderWay visit told of first before s n count → GivesNone before after × Rose before.faults after.faults
     → IsServed {L = L} visit told of first after s n worker.DoorFault
 fails visit told of first before after s n count way none = record {
@@ -242,7 +245,7 @@ fails visit told of first before after s n count way none = record {
   why = (way.rested, rose_since first.faults before.faults after.faults way.clients.no_fewer none.1);
 }
 
-pub lacks : {C S Y L X : Type 0} → (visit : Peer → Visit) (told : Ghosts C X) (of : WorkerTells S Y) (first before after : DoorSide C) (s n : WorkerSide S Y) (count : ℕ)
+pub lacks : {C S Y L X : Type 0} → (visit : Peer → Visit) (told : LinkTells C X) (of : WorkerTells S Y) (first before after : DoorSide C) (s n : WorkerSide S Y) (count : ℕ)
     → IsUnderWay visit told of first before s n count → GivesNone before after → after.faults ≡ before.faults
     → IsServed {L = L} visit told of first after s n worker.NoMemory
 lacks visit told of first before after s n count way none steady = record {
@@ -254,7 +257,7 @@ lacks visit told of first before after s n count way none steady = record {
 
 -- ---- the next client
 
-pub serves_on : {C S Y L X : Type 0} → (visit : Peer → Visit) (told : Ghosts C X) (of : WorkerTells S Y) (before after then : DoorSide C) (s mid n : WorkerSide S Y) (link : C) (peer : Peer)
+pub serves_on : {C S Y L X : Type 0} → (visit : Peer → Visit) (told : LinkTells C X) (of : WorkerTells S Y) (before after then : DoorSide C) (s mid n : WorkerSide S Y) (link : C) (peer : Peer)
     → ServesClient {L = L} visit told of before after s mid link peer None → Rests mid n → then ≡ after
     → ServesOn {L = L} visit told of before then s n link peer None
 serves_on {C} {S} {Y} {L} visit told of before after then s mid n link peer serves rests same = record {
@@ -263,13 +266,13 @@ serves_on {C} {S} {Y} {L} visit told of before after then s mid n link peer serv
   rests = rests;
 }
 
-pub goes_next : {C S Y L X : Type 0} → (visit : Peer → Visit) (told : Ghosts C X) (of : WorkerTells S Y) (first before mid after : DoorSide C) (s m k : WorkerSide S Y) (count next : ℕ) (link : C) (peer : Peer)
+pub goes_next : {C S Y L X : Type 0} → (visit : Peer → Visit) (told : LinkTells C X) (of : WorkerTells S Y) (first before mid after : DoorSide C) (s m k : WorkerSide S Y) (count next : ℕ) (link : C) (peer : Peer)
     → IsUnderWay visit told of first before s m count → Gives before mid link peer → ServesOn {L = L} visit told of mid after m k link peer None
     → next ≡ min (count + 1) 18446744073709551615 → IsUnderWay visit told of first after s k next
 goes_next {C} {S} {Y} {L} visit told of first before mid after s m k count next link peer way gives on more =
     goes_on {L = L} visit told of first before mid after s m on.mid k count next link peer after way gives on.serves on.rests refl more
 
-pub ends_next : {C S Y L X : Type 0} → (visit : Peer → Visit) (told : Ghosts C X) (of : WorkerTells S Y) (first before mid after : DoorSide C) (s m n : WorkerSide S Y) (count : ℕ) (link : C) (peer : Peer) (end : WorkerEnd L)
+pub ends_next : {C S Y L X : Type 0} → (visit : Peer → Visit) (told : LinkTells C X) (of : WorkerTells S Y) (first before mid after : DoorSide C) (s m n : WorkerSide S Y) (count : ℕ) (link : C) (peer : Peer) (end : WorkerEnd L)
     → IsUnderWay visit told of first before s m count → Gives before mid link peer
     → ServesNext visit told of mid after m n link peer (Some end) → IsServed visit told of first after s n end
 ends_next visit told of first before mid after s m n count link peer end way gives (inl serves) =
@@ -280,7 +283,7 @@ ends_next {C} {S} {Y} {L} visit told of first before mid after s m n count link 
     (goes_next {L = L} visit told of first before mid after s m n count (min (count + 1) 18446744073709551615) link peer way gives wants.1 refl))
 
 -- one turn, after which the worker goes on or ends
-pub turns : {C S Y L X : Type 0} → (visit : Peer → Visit) (told : Ghosts C X) (of : WorkerTells S Y) (first before mid after : DoorSide C) (s m n : WorkerSide S Y) (count : ℕ) (link : C) (peer : Peer) (end : Option (WorkerEnd L))
+pub turns : {C S Y L X : Type 0} → (visit : Peer → Visit) (told : LinkTells C X) (of : WorkerTells S Y) (first before mid after : DoorSide C) (s m n : WorkerSide S Y) (count : ℕ) (link : C) (peer : Peer) (end : Option (WorkerEnd L))
     → IsUnderWay visit told of first before s m count → Gives before mid link peer → ServesNext visit told of mid after m n link peer end
     → GoesOrEnds visit told of first after s n count end
 turns {L = L} visit told of first before mid after s m n count link peer None way gives serves =
@@ -288,9 +291,11 @@ turns {L = L} visit told of first before mid after s m n count link peer None wa
 turns visit told of first before mid after s m n count link peer (Some end) way gives serves =
     ends_next visit told of first before mid after s m n count link peer end way gives serves
 
--- A client was served, and the worker goes on or ends. It may serve on with what it has. Its share keeps its parts.
+-- A client was served, and the worker goes on or ends. It may serve on with what it has. Its share keeps its parts. Before each talk
+-- the reach was told how long its dial may take.
 pub record NextsPart {L D R K S W Y C X : Type 0} (told : PartTells D R K S Y C X) (post : Post) (before after : Part L D R K S W Y) (link : C) (peer : Peer) (end : Option (WorkerEnd L)) : Type 0 where
   pub served : ServesPartNext told (visit_at post) before after link peer end
+  pub dials : AwaitsDials told.reach told.reach_heard post.cfg.now.lbs before.reach after.reach
   pub fit : IsFit post.cfg.now post.map.now after.desk.desk (told.reach.beside after.reach)
   pub parts : after.desk.desk.parts ≡ before.desk.desk.parts
 
@@ -309,6 +314,9 @@ rests_next {L} told post before mid after link peer end left rested = record {
       next_so told (visit_at post) before after link peer end rested.why
       (serves_on {L = L} (visit_at post) told.link told.keeps (told.door before.door) (told.door mid.door) (told.door after.door)
       (worker_of told before) (worker_of told mid) (worker_of told after) link peer left.served rested.rests (ap told.door rested.same_door));
+  dials =
+      awaits_twice told.reach told.reach_heard post.cfg.now.lbs before.reach mid.reach after.reach left.dials
+      (awaits_none told.reach told.reach_heard post.cfg.now.lbs mid.reach after.reach (ap (λ (b : Beside). b.talks) rested.beside));
   fit = fit_again post.cfg.now post.map.now mid.desk after.desk (told.reach.beside mid.reach) (told.reach.beside after.reach) left.fit rested.same_desk rested.beside;
   parts = parts_again mid.desk after.desk before.desk.desk.parts left.parts rested.same_desk;
 }
@@ -319,6 +327,7 @@ pub turns_first : {L D R K S W Y C X : Type 0} → (told : PartTells D R K S Y C
     → IsFit cfg rules part.desk.desk (told.reach.beside part.reach) → told.keeps.log.broken_by part.log ≡ None → KeepsTurning told cfg rules number part part 0
 turns_first told cfg rules number part fit logged = record {
   way = begins (visit cfg rules number) told.link told.keeps (told.door part.door) (worker_of told part) logged;
+  dials = awaits_none told.reach told.reach_heard cfg.lbs part.reach part.reach refl;
   fit = fit;
   parts = refl;
 }
@@ -330,6 +339,7 @@ turns_again told post first now next count more turn is keeps = record {
   way =
       subst (λ (n : ℕ). IsUnderWay (visit_at post) told.link told.keeps (told.door first.door) (told.door next.door) (worker_of told first) (worker_of told next) n)
       (sym is) (turn.turned (told.door first.door) (worker_of told first) keeps.way);
+  dials = awaits_twice told.reach told.reach_heard post.cfg.now.lbs first.reach now.reach next.reach keeps.dials turn.dials;
   fit = turn.fit;
   parts = turn.parts ∙ keeps.parts;
 }

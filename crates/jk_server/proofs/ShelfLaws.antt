@@ -3,11 +3,11 @@ use Rattle.std.proofs.Common.{ℕ, ◌≡◌, List, [], ◌∷◌, ◌++◌, inl
 use Rattle.std.specs.List.{All}
 use Rattle.std.proofs.lemmas.Grind.{flat_map-append}
 use Rattle.std.proofs.lemmas.List.Elements.{All-append, All-cons, All-head, All-nil, All-tail, All-weaker}
-use Rattle.jk_io.specs.declared.traits.streams.Meanings.{Ghosts}
 use Rattle.jk_io.specs.declared.traits.surroundings.Peer.{Peer}
 use Rattle.jk_io.specs.Doors.{DoorSide}
 use Rattle.client_session.specs.Requests.{Visit}
 use Rattle.lb_shared.specs.Histories.{SeatNote, Step, cuts_seen, own_cuts}
+use Rattle.jk_server.specs.Awaits.{LinkTells}
 use Rattle.jk_server.specs.Headline.{HaveCut, cuts_in, cuts_made}
 use Rattle.jk_server.specs.Served.{EndsAtLast, EndsBy, HaveRested, IsRun, IsServed, Run}
 use Rattle.jk_server.specs.Worker.{BeginsSession, WorkerTells, WorkerSide}
@@ -29,7 +29,7 @@ cut_left {C} {S} {Y} s n left runs was none same =
       All-weaker (λ (r : Run C S Y). r.to.desk.seat.starts ≡ s.starts) (λ (r : Run C S Y). r.to.desk.seat.starts ≡ n.starts) (λ r is. is ∙ sym was.starts) runs was.sited,
     )
 
-module _ {C S Y X : Type 0} (visit : Peer → Visit) (told : Ghosts C X) (of : WorkerTells S Y) where
+module _ {C S Y X : Type 0} (visit : Peer → Visit) (told : LinkTells C X) (of : WorkerTells S Y) where
   -- One session.
   cut_session : (s : WorkerSide S Y) (r : Run C S Y) → BeginsSession of.log s r.peer r.from → IsRun visit told of r
       → (r.to.desk.seat.starts ≡ s.desk.seat.starts) × (cuts_seen r.to.desk.seat ≡ cuts_seen s.desk.seat ++ cuts_made r)

@@ -8,6 +8,7 @@ use Rattle.exchange.specs.Requests.{sizes_of}
 use Rattle.conn_pool.specs.Looks.{ends_of}
 use Rattle.atomic_table.specs.Seated.{TableId}
 use Rattle.jk_io.specs.declared.reaching.Talk.{Talk}
+use Rattle.jk_io.specs.declared.traits.streams.Awaited.{Awaited}
 use Rattle.jk_io.specs.declared.traits.streams.Meanings.{Ghosts}
 use Rattle.jk_io.specs.declared.traits.surroundings.Peer.{Peer}
 use Rattle.lb_model.specs.declared.segment.Segment.{Segment}
@@ -20,6 +21,7 @@ use Rattle.request_log.specs.LogStates.{LogState}
 use Rattle.gear_parts.specs.GearLogs.{broken_by, new_log, sink_of}
 use Rattle.gear_parts.specs.Gears.{GearSide, gear_side}
 use Rattle.gear_parts.specs.declared.world.Gear.{Gear}
+use Rattle.jk_server.specs.Awaits.{link_tells}
 use Rattle.jk_server.specs.Headline.{HaveCut, told_in}
 use Rattle.jk_server.specs.Served.{IsServed}
 use Rattle.jk_server.specs.Worker.{WorkerTells, WorkerSide}
@@ -36,6 +38,7 @@ use Rattle.jk_server.specs.Started.{IsStartedRun, pool_table}
 use Rattle.jk_server.specs.declared.runs.ends.Closing.{Closing}
 use Rattle.gear_parts.proofs.ListLaws.{all_of_map, map_map}
 use Rattle.gear_parts.proofs.StartLaws.{gives_back}
+use Rattle.jk_server.proofs.AwaitLaws.{served_unheard}
 use Rattle.jk_server.proofs.HeadlineLaws.{headline_of}
 
 -- A log that begins is written to what it was given, and isn't broken.
@@ -109,12 +112,22 @@ run_done {L = L} visits told shelved of format lbs moment begun left back seats 
   closed = closed.1;
 }
 
-pub served_gear : {C S O L X : Type 0} → (visit : Peer → Visit) (told : Ghosts C X) (of : WorkerTells S (Option (LogState O))) (format : List FormatPart) (before after : GearSide C S O) (seat : SeatNote) (from to : WorkerSide S (Option (LogState O))) (end : WorkerEnd L)
-    → (served : IsServed visit told of before.door after.door from to end) → WorksWith before from → IsNew from.desk → WorksWith after to
+pub served_gear : {C S O L X : Type 0} → (visit : Peer → Visit) (told : Ghosts C X) (heard : C → Awaited → C → Type 0) (of : WorkerTells S (Option (LogState O))) (format : List FormatPart) (before after : GearSide C S O) (seat : SeatNote) (from to : WorkerSide S (Option (LogState O))) (end : WorkerEnd L)
+    → (served : IsServed visit (link_tells told heard) of before.door after.door from to end) → WorksWith before from → IsNew from.desk → WorksWith after to
     → from.log ≡ new_log format before.log → sink_of to.log ≡ after.log
     → own_in seat.number seat.seen ≡ noted (told_in served.runs) → HaveCut seat served.runs → IsServedGear visit told of format before after seat end
-served_gear visit told of format before after seat from to end served first fresh last begun left own cut =
-    record { from = from; to = to; first = first; fresh = fresh; last = last; begun = begun; left = left; served = served; own = own; cut = cut }
+served_gear visit told heard of format before after seat from to end served first fresh last begun left own cut = record {
+  from = from;
+  to = to;
+  first = first;
+  fresh = fresh;
+  last = last;
+  begun = begun;
+  left = left;
+  served = served_unheard visit told heard of before.door after.door from to end served;
+  own = own;
+  cut = cut;
+}
 
 -- The run, from before its start.
 pub started_run : {D G T K S O C L X : Type 0} → (visits : ℕ → Peer → Visit) (told : Ghosts C X) (shelved : S → Option (List (ℕ × Segment))) (of : WorkerTells S (Option (LogState O))) (format : List FormatPart) (lbs : List Lb) (moment : ℕ)

@@ -3,7 +3,6 @@ use Rattle.std.proofs.Common.{◌≡◌, List, [], ◌∷◌, ◌++◌, Option, 
 use Rattle.std.specs.List.{All}
 use Rattle.std.proofs.lemmas.Grind.{flat_map-append}
 use Rattle.std.proofs.lemmas.List.Elements.{All-head, All-tail}
-use Rattle.jk_io.specs.declared.traits.streams.Meanings.{Ghosts}
 use Rattle.jk_io.specs.declared.traits.surroundings.Peer.{Peer}
 use Rattle.lb_model.specs.declared.refusal.Stray.{Stray}
 use Rattle.lb_book.specs.Desks.{DeskState, first_stray}
@@ -16,6 +15,7 @@ use Rattle.client_session.specs.Requests.{Visit}
 use Rattle.client_session.specs.declared.ending.SessionStop.{SessionStop}
 use Rattle.client_session.specs.declared.ending.SessionStop.TheVariants as stop
 use Rattle.jk_io.specs.Doors.{DoorSide}
+use Rattle.jk_server.specs.Awaits.{LinkTells}
 use Rattle.jk_server.specs.Headline.{MetNoStray, NamesItsStray, told_in}
 use Rattle.jk_server.specs.Served.{CanGoOn, EndsAtLast, EndsBy, HaveRested, IsRun, IsStray, Run}
 use Rattle.jk_server.specs.Worker.{BeginsSession, WorkerTells, WorkerSide}
@@ -50,7 +50,7 @@ named (stop.Stray ticket returned_at) old new stray meets is none has =
     ap (λ (x : Stray). stop.Stray x.ticket x.returned_at) (some_is mine stray same)
 named stop.NoMemory old new stray meets is none has = absurd is
 
-module _ {C S Y X : Type 0} (visit : Peer → Visit) (told : Ghosts C X) (of : WorkerTells S Y) where
+module _ {C S Y X : Type 0} (visit : Peer → Visit) (told : LinkTells C X) (of : WorkerTells S Y) where
   -- A session after which its desk has no stray.
   came_back : (s : WorkerSide S Y) (r : Run C S Y) → BeginsSession of.log s r.peer r.from → IsRun visit told of r → r.to.desk.desk.met ≡ None
       → HaveReturned r.to.desk.desk.receipts

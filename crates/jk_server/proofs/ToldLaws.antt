@@ -1,11 +1,10 @@
 -- The own entries that a desk has seen are those that its worker's sessions were told.
-use Rattle.std.proofs.Common.{ℕ, ◌≡◌, List, [], ◌∷◌, ◌++◌, map, inl, inr, refl, sym, ap, ◌∙◌, subst, append-nil, append_assoc}
+use Rattle.std.proofs.Common.{ℕ, ◌≡◌, List, [], ◌∷◌, ◌++◌, inl, inr, refl, sym, ap, ◌∙◌, subst, append-nil, append_assoc}
 use Rattle.std.specs.List.{All}
 use Rattle.std.proofs.lemmas.Grind.{flat_map-append}
 use Rattle.std.proofs.lemmas.List.Elements.{All-cons, All-head, All-nil, All-tail}
 use mathlib.Core.List.{map-append}
 use Rattle.atomic_table.specs.Seated.{TableId}
-use Rattle.jk_io.specs.declared.traits.streams.Meanings.{Ghosts}
 use Rattle.jk_io.specs.declared.traits.surroundings.Peer.{Peer}
 use Rattle.lb_model.specs.declared.journal.Entry.{Entry}
 use Rattle.lb_book.specs.declared.receipt.Receipt.{Receipt}
@@ -16,6 +15,7 @@ use Rattle.lb_shared.specs.SharedDesks.{SharedState}
 use Rattle.lb_shared.specs.Shelves.{HasShelved, ShelfNote}
 use Rattle.lb_shared.proofs.LeftLaws.{gone_none}
 use Rattle.lb_shared.proofs.ShelfLaws.{shelved_none}
+use Rattle.jk_server.specs.Awaits.{LinkTells}
 use Rattle.jk_server.specs.Headline.{told_in}
 use Rattle.jk_server.specs.Served.{EndsAtLast, EndsBy, HaveRested, IsRun, IsServed, Run, left_by}
 use Rattle.jk_server.specs.Worker.{BeginsSession, WorkerTells, WorkerSide}
@@ -78,7 +78,7 @@ pub all_last : {A : Type 0} (P : A → Type 0) (xs : List A) (y : A) → All P (
 all_last P [] y all = All-head P y [] all
 all_last P (x ∷ xs) y all = all_last P xs y (All-tail P x (xs ++ y ∷ []) all)
 
-module _ {C S Y X : Type 0} (visit : Peer → Visit) (told : Ghosts C X) (of : WorkerTells S Y) where
+module _ {C S Y X : Type 0} (visit : Peer → Visit) (told : LinkTells C X) (of : WorkerTells S Y) where
   -- One session, from the moment before the desk forgot the receipts of the last.
   told_session : (s : WorkerSide S Y) (r : Run C S Y) → BeginsSession of.log s r.peer r.from → IsRun visit told of r
       → WasTold s.desk.seat r.to.desk.seat r.to.desk.desk.receipts

@@ -26,6 +26,7 @@ use Rattle.lb_shared.specs.Sites.{AreSited}
 use Rattle.site_reports.specs.Starts.{AreStarts}
 use Rattle.lb_closing.specs.OneHistory.{IsOneHistory}
 use Rattle.site_config.specs.declared.balancer.Lb.{Lb}
+use Rattle.jk_server.specs.Awaits.{unheard}
 use Rattle.jk_server.specs.Served.{IsRun, IsStray, Run}
 use Rattle.jk_server.specs.Worker.{WorkerTells}
 use Rattle.jk_server.specs.declared.part.WorkerEnd.{WorkerEnd}
@@ -84,7 +85,7 @@ pub record IsOneList {C S Y : Type 0} (lbs : List Lb) (at : ℕ) (workers : List
 -- Each client of these workers was served by a session of the worker's number.
 abbrev pub AreSessions : {C S Y X : Type 0} → (ℕ → Peer → Visit) → Ghosts C X → WorkerTells S Y → (number : ℕ) → List (List (Run C S Y)) → Type 0
 AreSessions visits told of number [] = Unit {0}
-AreSessions visits told of number (runs ∷ workers) = All (IsRun (visits number) told of) runs × AreSessions visits told of (number + 1) workers
+AreSessions visits told of number (runs ∷ workers) = All (IsRun (visits number) (unheard told) of) runs × AreSessions visits told of (number + 1) workers
 
 -- A worker that ended by a stray names the one by which its last session ended.
 abbrev pub NamesItsStray : {C S Y L : Type 0} → List (Run C S Y) → WorkerEnd L → Type 0

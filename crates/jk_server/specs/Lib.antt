@@ -1,3 +1,4 @@
+pub mod Awaits
 pub mod Closings
 pub mod Commands
 pub mod Ends

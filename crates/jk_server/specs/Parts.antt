@@ -1,13 +1,13 @@
 -- The workers of a run, each at its part, and the gear, the leaving and the end that are left of its slot.
 use Rattle.std.specs.Prelude.{ℕ, ◌≡◌, ◌+◌, ◌<◌, false, is_some, List, [], ◌∷◌, length, slice_index_or, Option}
 use Rattle.jk_io.specs.declared.reaching.Beside.{Beside}
-use Rattle.jk_io.specs.declared.traits.streams.Meanings.{Ghosts}
 use Rattle.jk_io.specs.declared.traits.surroundings.Peer.{Peer}
 use Rattle.client_session.specs.Requests.{Visit, visit}
 use Rattle.jk_io.specs.Doors.{DoorSide}
 use Rattle.lb_shared.specs.declared.shared_desk.Leaving.{Leaving}
 use Rattle.site_config.specs.declared.config.Config.{Config}
 use Rattle.site_mounts.specs.declared.rule.Rule.{Rule}
+use Rattle.jk_server.specs.Awaits.{LinkTells}
 use Rattle.jk_server.specs.Served.{IsServed}
 use Rattle.jk_server.specs.PartTells.{PartTells, worker_of}
 use Rattle.jk_server.specs.Worker.{IsFit, WorkerTells, WorkerSide}
@@ -20,7 +20,7 @@ use Rattle.jk_server.specs.declared.part.WorkerEnd.{WorkerEnd}
 use Rattle.jk_server.specs.declared.workers.Slot.{Slot}
 
 -- A worker served its part, and may serve on with what it has. Its share keeps its parts.
-pub record IsWorked {C S Y L X : Type 0} (visit : Peer → Visit) (told : Ghosts C X) (of : WorkerTells S Y) (cfg : Config) (rules : List Rule) (before after : DoorSide C) (s n : WorkerSide S Y) (beside : Beside) (end : WorkerEnd L) : Type 0 where
+pub record IsWorked {C S Y L X : Type 0} (visit : Peer → Visit) (told : LinkTells C X) (of : WorkerTells S Y) (cfg : Config) (rules : List Rule) (before after : DoorSide C) (s n : WorkerSide S Y) (beside : Beside) (end : WorkerEnd L) : Type 0 where
   pub served : IsServed visit told of before after s n end
   pub fit : IsFit cfg rules n.desk.desk beside
   pub parts : n.desk.desk.parts ≡ s.desk.desk.parts

@@ -14,6 +14,7 @@ use Rattle.gear_parts.specs.GearLogs.{new_log, sink_of}
 use Rattle.gear_parts.specs.Gears.{GearSide}
 use Rattle.gear_parts.specs.Starts.{AreStarted, GivesFirst}
 use Rattle.gear_parts.specs.declared.world.Gear.{Gear}
+use Rattle.jk_server.specs.Awaits.{unheard}
 use Rattle.jk_server.specs.Headline.{HaveCut, IsHeadline, told_in}
 use Rattle.jk_server.specs.Served.{IsServed}
 use Rattle.jk_server.specs.Worker.{WorkerTells, WorkerSide}
@@ -41,7 +42,8 @@ pub record IsNew {S : Type 0} (desk : SharedState S) : Type 0 where
 
 -- A worker served the clients of its gear's door, each by one session, in order, with the talks on its tape; it began a log of
 -- this format in what the gear has for it, where it has one. `end` is the worker's end. What its desk has seen as its own, at
--- the seat that it left, is just what these sessions were told, in order, and the cuts that were made in them.
+-- the seat that it left, is just what these sessions were told, in order, and the cuts that were made in them. What the links were
+-- told to await stands with the worker's sessions alone.
 pub record IsServedGear {C S O L X : Type 0} (visit : Peer → Visit) (told : Ghosts C X) (of : WorkerTells S (Option (LogState O))) (format : List FormatPart) (before after : GearSide C S O) (seat : SeatNote) (end : WorkerEnd L) : Type 0 where
   pub from : WorkerSide S (Option (LogState O))
   pub to : WorkerSide S (Option (LogState O))
@@ -50,7 +52,7 @@ pub record IsServedGear {C S O L X : Type 0} (visit : Peer → Visit) (told : Gh
   pub last : WorksWith after to
   pub begun : from.log ≡ new_log format before.log
   pub left : sink_of to.log ≡ after.log
-  pub served : IsServed visit told of before.door after.door from to end
+  pub served : IsServed visit (unheard told) of before.door after.door from to end
   pub own : own_in seat.number seat.seen ≡ noted (told_in served.runs)
   pub cut : HaveCut seat served.runs
 

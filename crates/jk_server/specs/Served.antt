@@ -4,7 +4,6 @@ use Rattle.std.specs.List.{All}
 use Rattle.jk_io.specs.Told.{appended, IsEmpty, Rose}
 use Rattle.jk_io.specs.declared.failures.IoError.{IoError}
 use Rattle.jk_io.specs.declared.failures.IoError.TheVariants as io
-use Rattle.jk_io.specs.declared.traits.streams.Meanings.{Ghosts}
 use Rattle.jk_io.specs.declared.traits.surroundings.Peer.{Peer}
 use Rattle.jk_io.specs.Doors.{DoorSide, GaveAndGot}
 use Rattle.client_session.specs.Ends.{MeetsBy, RisesBy}
@@ -21,6 +20,7 @@ use Rattle.status_worker.specs.Desks.{KeepsTickets}
 use Rattle.lb_shared.specs.Histories.{HasGone}
 use Rattle.lb_shared.specs.SharedDesks.{SharedState}
 use Rattle.lb_shared.specs.Shelves.{HasShelved}
+use Rattle.jk_server.specs.Awaits.{AwaitsClient, LinkTells}
 use Rattle.jk_server.specs.Worker.{BeginsSession, WorkerTells, Rests, shelf_of, standing_with, took, WorkerSide}
 use Rattle.jk_server.specs.PartTells.{PartTells, worker_of}
 use Rattle.gear_parts.specs.declared.part.Part.{Part}
@@ -41,18 +41,21 @@ pub record Run (C S Y : Type 0) : Type 0 where
 -- ended; the client has the parts of these requests, joined; and what holds of each session that ends so. The session gained
 -- receipts of this worker alone, and the desk holds the tickets that it held. Only a client whose reads may wait was left
 -- while it waited. What the desk was told in the session is just what its seat has seen besides as its own. Its shelf was only
--- added to, its faults and wants didn't fall, and it forgot no receipt.
-pub record IsRun {C S Y X : Type 0} (visit : Peer → Visit) (told : Ghosts C X) (of : WorkerTells S Y) (r : Run C S Y) : Type 0 where
-  pub session : Serves (visit r.peer) (standing_with r.from (client_at told r.link)) (standing_with r.to (client_at told r.back))
+-- added to, its faults and wants didn't fall, and it forgot no receipt. Before each of its requests the client was told that it is
+-- waited for, unless memory was wanted before the first.
+pub record IsRun {C S Y X : Type 0} (visit : Peer → Visit) (told : LinkTells C X) (of : WorkerTells S Y) (r : Run C S Y) : Type 0 where
+  pub session : Serves (visit r.peer) (standing_with r.from (client_at told.stream r.link)) (standing_with r.to (client_at told.stream r.back))
       (λ gained. of.log.gained r.from.log gained r.to.log) r.end
-  pub parts : HasParts (visit r.peer) (standing_with r.from (client_at told r.link) []) (standing_with r.to (client_at told r.back) []) r.end
+  pub parts : HasParts (visit r.peer) (standing_with r.from (client_at told.stream r.link) []) (standing_with r.to (client_at told.stream r.back) []) r.end
   pub each : HoldsOfEach (visit r.peer) r.end
-  pub fault : RisesBy r.end.stop (told.faults r.link) (told.faults r.back)
+  pub fault : RisesBy r.end.stop (told.stream.faults r.link) (told.stream.faults r.back)
   pub met : MeetsBy r.end.stop r.from.desk.desk r.to.desk.desk
   pub kept : KeepsTickets (visit r.peer).session r.from.desk.desk r.to.desk.desk
   pub idle_only : r.end.stop ≡ stop.Closed why.Idle → of.may_wait ≡ true
   pub gone : HasGone r.from.desk.seat r.from.desk.desk.receipts r.to.desk.seat r.to.desk.desk.receipts
   pub shelf : HasShelved (shelf_of of r.from.desk) (shelf_of of r.to.desk)
+  pub awaits : AwaitsClient told.stream told.heard (visit r.peer) (standing_with r.from (client_at told.stream r.link))
+      (standing_with r.to (client_at told.stream r.back)) r.link r.back r.end
 
 -- a worker goes on after a session that ended so
 abbrev pub CanGoOn : SessionStop → Type 0
@@ -155,7 +158,7 @@ EndsBy {L = L} of before after s n runs worker.NoMemory =
 
 -- All that a worker did: the clients that came from its door, in order, were served, each by one session, and were left
 -- in that order.
-pub record IsServed {C S Y L X : Type 0} (visit : Peer → Visit) (told : Ghosts C X) (of : WorkerTells S Y) (before after : DoorSide C) (s n : WorkerSide S Y) (end : WorkerEnd L) : Type 0 where
+pub record IsServed {C S Y L X : Type 0} (visit : Peer → Visit) (told : LinkTells C X) (of : WorkerTells S Y) (before after : DoorSide C) (s n : WorkerSide S Y) (end : WorkerEnd L) : Type 0 where
   pub runs : List (Run C S Y)
   pub clients : GaveAndGot before after (map (λ r. (r.link, r.peer)) runs) (map (λ r. r.back) runs)
   pub sessions : All (IsRun visit told of) runs
@@ -187,7 +190,7 @@ Settles of from to n end None = WorkerGoesOn of from to end × (n ≡ to.desk)
 Settles of from to n end (Some worker_end) = EndsAfter of from to end worker_end × (n ≡ left_by worker_end to.desk)
 
 -- A client was served by one session, its link was left, and the worker goes on or ends by that session.
-pub record ServesClient {C S Y L X : Type 0} (visit : Peer → Visit) (told : Ghosts C X) (of : WorkerTells S Y) (before after : DoorSide C) (s n : WorkerSide S Y) (link : C) (peer : Peer) (end : Option (WorkerEnd L)) : Type 0 where
+pub record ServesClient {C S Y L X : Type 0} (visit : Peer → Visit) (told : LinkTells C X) (of : WorkerTells S Y) (before after : DoorSide C) (s n : WorkerSide S Y) (link : C) (peer : Peer) (end : Option (WorkerEnd L)) : Type 0 where
   pub back : C
   pub from : WorkerSide S Y
   pub to : WorkerSide S Y
@@ -201,13 +204,13 @@ pub record ServesClient {C S Y L X : Type 0} (visit : Peer → Visit) (told : Gh
   pub door_faults : after.faults ≡ before.faults
 
 -- A client was served, and then the worker rested.
-pub record ServesOn {C S Y L X : Type 0} (visit : Peer → Visit) (told : Ghosts C X) (of : WorkerTells S Y) (before after : DoorSide C) (s n : WorkerSide S Y) (link : C) (peer : Peer) (none : Option (WorkerEnd L)) : Type 0 where
+pub record ServesOn {C S Y L X : Type 0} (visit : Peer → Visit) (told : LinkTells C X) (of : WorkerTells S Y) (before after : DoorSide C) (s n : WorkerSide S Y) (link : C) (peer : Peer) (none : Option (WorkerEnd L)) : Type 0 where
   pub mid : WorkerSide S Y
   pub serves : ServesClient visit told of before after s mid link peer none
   pub rests : Rests mid n
 
 -- After a client the worker rests and goes on, or ends: at once, or because its reach wanted memory to rest.
-abbrev pub ServesNext : {C S Y L X : Type 0} → (visit : Peer → Visit) → (told : Ghosts C X) → WorkerTells S Y → (before after : DoorSide C) → (s n : WorkerSide S Y) → (link : C) → (peer : Peer) → Option (WorkerEnd L) → Type 0
+abbrev pub ServesNext : {C S Y L X : Type 0} → (visit : Peer → Visit) → (told : LinkTells C X) → WorkerTells S Y → (before after : DoorSide C) → (s n : WorkerSide S Y) → (link : C) → (peer : Peer) → Option (WorkerEnd L) → Type 0
 ServesNext {L = L} visit told of before after s n link peer None = ServesOn {L = L} visit told of before after s n link peer None
 ServesNext {L = L} visit told of before after s n link peer (Some end) =
     ServesClient visit told of before after s n link peer (Some end)

@@ -1,13 +1,14 @@
 -- One turn of a worker, after the clients that it served before.
 use Rattle.std.specs.Prelude.{ℕ, ◌≡◌, ◌+◌, min, List, map, Option, Some, None}
 use Rattle.std.specs.List.{All}
-use Rattle.jk_io.specs.declared.traits.streams.Meanings.{Ghosts}
 use Rattle.jk_io.specs.declared.traits.surroundings.Peer.{Peer}
 use Rattle.client_session.specs.Requests.{Visit, visit}
+use Rattle.exchange.specs.Awaits.{AwaitsDials}
 use Rattle.jk_io.specs.Doors.{DoorSide, GaveAndGot}
 use Rattle.site_config.specs.declared.config.Config.{Config}
 use Rattle.site_mounts.specs.declared.rule.Rule.{Rule}
 use Rattle.gear_parts.specs.declared.part.Part.{Part}
+use Rattle.jk_server.specs.Awaits.{LinkTells}
 use Rattle.jk_server.specs.PartTells.{PartTells, visit_at, worker_of}
 use Rattle.jk_server.specs.Served.{count_of, HaveRested, IsRun, IsServed, Run, ServesPartClient}
 use Rattle.jk_server.specs.Worker.{IsFit, WorkerTells, Rests, WorkerSide}
@@ -16,7 +17,7 @@ use Rattle.jk_server.specs.declared.part.WorkerEnd.{WorkerEnd}
 use Rattle.jk_server.specs.declared.part.WorkerEnd.TheVariants as worker
 
 -- These clients were served, the worker rested after each, no call of its door failed, and its log took each row.
-pub record IsUnderWay {C S Y X : Type 0} (visit : Peer → Visit) (told : Ghosts C X) (of : WorkerTells S Y) (first now : DoorSide C) (s n : WorkerSide S Y) (count : ℕ) : Type 0 where
+pub record IsUnderWay {C S Y X : Type 0} (visit : Peer → Visit) (told : LinkTells C X) (of : WorkerTells S Y) (first now : DoorSide C) (s n : WorkerSide S Y) (count : ℕ) : Type 0 where
   pub runs : List (Run C S Y)
   pub clients : GaveAndGot first now (map (λ r. (r.link, r.peer)) runs) (map (λ r. r.back) runs)
   pub sessions : All (IsRun visit told of) runs
@@ -26,13 +27,15 @@ pub record IsUnderWay {C S Y X : Type 0} (visit : Peer → Visit) (told : Ghosts
   pub logged : of.log.broken_by n.log ≡ None
 
 -- One more client was served, and the worker goes on; or it ended.
-abbrev pub GoesOrEnds : {C S Y L X : Type 0} → (Peer → Visit) → Ghosts C X → WorkerTells S Y → (first now : DoorSide C) → (s n : WorkerSide S Y) → (count : ℕ) → Option (WorkerEnd L) → Type 0
+abbrev pub GoesOrEnds : {C S Y L X : Type 0} → (Peer → Visit) → LinkTells C X → WorkerTells S Y → (first now : DoorSide C) → (s n : WorkerSide S Y) → (count : ℕ) → Option (WorkerEnd L) → Type 0
 GoesOrEnds visit told of first now s n count None = IsUnderWay visit told of first now s n (min (count + 1) 18446744073709551615)
 GoesOrEnds visit told of first now s n count (Some end) = IsServed visit told of first now s n end
 
--- A client was served and its link was left. The worker may serve on with what it has. Its share keeps its parts.
+-- A client was served and its link was left. Before each talk the reach was told how long its dial may take. The worker may serve
+-- on with what it has. Its share keeps its parts.
 pub record LeavesClient {L D R K S W Y C X : Type 0} (told : PartTells D R K S Y C X) (post : Post) (before after : Part L D R K S W Y) (link : C) (peer : Peer) (end : Option (WorkerEnd L)) : Type 0 where
   pub served : ServesPartClient told (visit_at post) before after link peer end
+  pub dials : AwaitsDials told.reach told.reach_heard post.cfg.now.lbs before.reach after.reach
   pub fit : IsFit post.cfg.now post.map.now after.desk.desk (told.reach.beside after.reach)
   pub parts : after.desk.desk.parts ≡ before.desk.desk.parts
 
@@ -50,16 +53,20 @@ pub record RestsPart {L D R K S W Y C X : Type 0} (told : PartTells D R K S Y C 
   pub same_desk : after.desk ≡ before.desk
   pub same_log : after.log ≡ before.log
 
--- So after all that were served before, and the worker may serve on with what it has. Its share keeps its parts.
+-- So after all that were served before, and the worker may serve on with what it has. Its share keeps its parts. Before each talk
+-- the reach was told how long its dial may take.
 pub record TurnsPart {L D R K S W Y C X : Type 0} (told : PartTells D R K S Y C X) (post : Post) (before after : Part L D R K S W Y) (count : ℕ) (end : Option (WorkerEnd L)) : Type 0 where
   pub turned : (first : DoorSide C) (s : WorkerSide S Y)
       → IsUnderWay (visit_at post) told.link told.keeps first (told.door before.door) s (worker_of told before) count
       → GoesOrEnds (visit_at post) told.link told.keeps first (told.door after.door) s (worker_of told after) count end
+  pub dials : AwaitsDials told.reach told.reach_heard post.cfg.now.lbs before.reach after.reach
   pub fit : IsFit post.cfg.now post.map.now after.desk.desk (told.reach.beside after.reach)
   pub parts : after.desk.desk.parts ≡ before.desk.desk.parts
 
--- The clients so far were served since a moment, and the worker may serve on with what it has. Its share keeps its parts.
+-- The clients so far were served since a moment, and the worker may serve on with what it has. Its share keeps its parts. Before
+-- each talk the reach was told how long its dial may take.
 pub record KeepsTurning {L D R K S W Y C X : Type 0} (told : PartTells D R K S Y C X) (cfg : Config) (rules : List Rule) (number : ℕ) (first now : Part L D R K S W Y) (count : ℕ) : Type 0 where
   pub way : IsUnderWay (visit cfg rules number) told.link told.keeps (told.door first.door) (told.door now.door) (worker_of told first) (worker_of told now) count
+  pub dials : AwaitsDials told.reach told.reach_heard cfg.lbs first.reach now.reach
   pub fit : IsFit cfg rules now.desk.desk (told.reach.beside now.reach)
   pub parts : now.desk.desk.parts ≡ first.desk.desk.parts

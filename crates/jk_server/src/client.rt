@@ -7,7 +7,7 @@ ghost use Rattle.lb_shared.specs.Histories.{HasGone};
 ghost use Rattle.lb_shared.specs.Loans.{name_in, seat_in, shelf_in, state_in};
 ghost use Rattle.lb_shared.specs.Notes.{StrayNote};
 ghost use Rattle.lb_shared.specs.Shelves.{HasShelved};
-ghost use Rattle.jk_server.specs.Lent.{ServesLent, SinceCounts, lent, loaned};
+ghost use Rattle.jk_server.specs.Lent.{AreLentStill, ServesLent, SinceCounts, lent, loaned};
 ghost use Rattle.jk_server.specs.Served.{DeskSettles, IsStray, SettlesBy};
 ghost use Rattle.jk_server.specs.PartTells.{part_tells};
 ghost use Rattle.jk_server.specs.Turns.{LeavesClient, RestsPart};
@@ -128,12 +128,21 @@ fn close_client<L: SiteName, D: Door, R, K, S: Shelf, W, Y: WorkerLog>(
     end_by(part.log.broken(), &mut part.desk, before, stop)
 }
 
-/// A session's memory, with what its client's bytes are read into, and whom it serves by what.
+/// How a client is received: a session's memory, with what the client's bytes are read into, and whom it serves by what.
 #[derive(Drop)]
-struct Visit<'a, 'i> {
+struct Reception<'a, 'i> {
     alloc: Global,
     site: SessionSite<'a>,
     inbox: &'i mut Option<Inbox>,
+}
+
+/// What a session is lent beside its desk: a clock, a reach, the client, and where the rows of its requests are put.
+#[derive(Drop)]
+struct LentMeans<'k, 'r, 'c, 'y, K, R, C, Y> {
+    clock: &'k mut K,
+    reach: &'r mut R,
+    client: &'c mut C,
+    rows: &'y mut Y,
 }
 
 /// The inbox that a worker has, or a new one where it has none.
@@ -148,21 +157,19 @@ fn inbox_of(alloc: Global, had: Option<Inbox>) -> Result<Inbox, NoMemory>
 
 /// One session, by each of the things that it is lent; for want of memory for its inbox there is none.
 fn serve_visit<B: Desk, R: Reach, C: Link, K: Clock, Y: RowSink>(
-    of: Visit<'_, '_>,
+    of: Reception<'_, '_>,
     desk: &mut B,
-    clock: &mut K,
-    reach: &mut R,
-    client: &mut C,
-    rows: &mut Y,
+    means: &mut LentMeans<K, R, C, Y>,
 ) -> SessionEnd
 where
     B::Mark: Drop,
     B::Shown: Drop,
-    requires ready { IsReady (visit_of of.site) (B.state desk.old) (R.beside reach.old) }
-    ensures { ServesLent B.state K.Clock R.Meanings C.Meanings Y.RowSink C.may_wait of.entry
-        (lent desk.old clock.old reach.old client.old rows.old) (lent desk.new clock.new reach.new client.new rows.new) result }
+    requires ready { IsReady (visit_of of.site) (B.state desk.old) (R.beside means.old.reach.now) }
+    ensures session { ServesLent B.state K.Clock R.Meanings R.heard C.Meanings C.heard C.may_wait Y.RowSink of.entry
+        (lent desk.old means.old) (lent desk.new means.new) result }
+    ensures still { AreLentStill means.old means.new }
 {
-    let Visit { alloc, site, inbox } = of;
+    let Reception { alloc, site, inbox } = of;
     let Ok(mut bytes) = inbox_of(alloc, inbox.take()) else {
         return SessionEnd {
             requests: 0,
@@ -171,12 +178,12 @@ where
     };
     let mut around = Surroundings {
         desk,
-        clock,
-        reach,
-        client,
+        clock: means.clock,
+        reach: means.reach,
+        client: means.client,
         inbox: &mut bytes,
     };
-    let end = serve_session(alloc, &site, &mut around, rows);
+    let end = serve_session(alloc, &site, &mut around, means.rows);
     *inbox = Some(bytes);
     end
 }
@@ -184,12 +191,9 @@ where
 /// As `serve_visit`, by a desk that is lent since the moment M and put back.
 #[tactic(auto, using(crate::proofs::ToldLaws::lent_now, crate::proofs::ToldLaws::lent_shelf))]
 fn serve_lent<B: SeatedDesk, R: Reach, C: Link, K: Clock, Y: RowSink, M: Moment>(
-    of: Visit<'_, '_>,
+    of: Reception<'_, '_>,
     loan: &mut DeskLoan<'_, B>,
-    clock: &mut K,
-    reach: &mut R,
-    client: &mut C,
-    rows: &mut Y,
+    means: &mut LentMeans<K, R, C, Y>,
 ) -> SessionEnd
 where
     B::Mark: Drop,
@@ -199,11 +203,12 @@ where
     requires seat { seat_in B.seat loan.old.desk ≡ M.seat }
     requires receipts { (state_in B.state loan.old.desk).receipts ≡ M.receipts }
     requires shelf { shelf_in B.shelf loan.old.desk ≡ M.shelf }
-    requires ready { IsReady (visit_of of.site) (state_in B.state loan.old.desk) (R.beside reach.old) }
+    requires ready { IsReady (visit_of of.site) (state_in B.state loan.old.desk) (R.beside means.old.reach.now) }
     ensures there { IsSome loan.new.desk }
     ensures same { name_in loan.new.desk ≡ name_in loan.old.desk }
-    ensures session { ServesLent (loaned B.state) K.Clock R.Meanings C.Meanings Y.RowSink C.may_wait of.entry
-        (lent loan.old clock.old reach.old client.old rows.old) (lent loan.new clock.new reach.new client.new rows.new) result }
+    ensures session { ServesLent (loaned B.state) K.Clock R.Meanings R.heard C.Meanings C.heard C.may_wait Y.RowSink of.entry
+        (lent loan.old means.old) (lent loan.new means.new) result }
+    ensures still { AreLentStill means.old means.new }
     ensures gone { HasGone M.seat M.receipts (seat_in B.seat loan.new.desk) (state_in B.state loan.new.desk).receipts }
     ensures shelf { HasShelved M.shelf (shelf_in B.shelf loan.new.desk) }
 {
@@ -212,7 +217,7 @@ where
         desk,
         of: PhantomData,
     };
-    let end = serve_visit(of, &mut lent, clock, reach, client, rows);
+    let end = serve_visit(of, &mut lent, means);
     let LentDesk { desk, of: _ } = lent;
     loan.desk = Some(desk);
     end
@@ -221,24 +226,22 @@ where
 /// As `serve_visit`, by a desk at a lock, which is known to stay there, and to have seen as its own what the session was told; its
 /// shelf was only added to.
 fn serve_seated<B: SeatedDesk, R: Reach, C: Link, K: Clock, Y: RowSink>(
-    of: Visit<'_, '_>,
+    of: Reception<'_, '_>,
     desk: &mut B,
-    clock: &mut K,
-    reach: &mut R,
-    client: &mut C,
-    rows: &mut Y,
+    means: &mut LentMeans<K, R, C, Y>,
 ) -> SessionEnd
 where
     B::Mark: Drop,
     B::Shown: Drop,
-    requires ready { IsReady (visit_of of.site) (B.state desk.old) (R.beside reach.old) }
-    ensures session { ServesLent B.state K.Clock R.Meanings C.Meanings Y.RowSink C.may_wait of.entry
-        (lent desk.old clock.old reach.old client.old rows.old) (lent desk.new clock.new reach.new client.new rows.new) result }
+    requires ready { IsReady (visit_of of.site) (B.state desk.old) (R.beside means.old.reach.now) }
+    ensures session { ServesLent B.state K.Clock R.Meanings R.heard C.Meanings C.heard C.may_wait Y.RowSink of.entry
+        (lent desk.old means.old) (lent desk.new means.new) result }
+    ensures still { AreLentStill means.old means.new }
     ensures gone { HasGone (B.seat desk.old) (B.state desk.old).receipts (B.seat desk.new) (B.state desk.new).receipts }
     ensures shelf { HasShelved (B.shelf desk.old) (B.shelf desk.new) }
 {
     let mut loan = DeskLoan { desk: Some(desk) };
-    let end = serve_lent::<B, R, C, K, Y, Brand>(of, &mut loan, clock, reach, client, rows);
+    let end = serve_lent::<B, R, C, K, Y, Brand>(of, &mut loan, means);
     let _back = loan.desk.unwrap();
     end
 }
@@ -263,12 +266,12 @@ pub(crate) fn serve_client<
 ) -> Option<WorkerEnd<L>>
     requires ready { MayBegin post.cfg.now post.map.now part.old.desk.desk (R.beside part.old.reach) (Y.broken_by part.old.log) }
     requires room { 0 < D.room part.old.door }
-    ensures { LeavesClient (part_tells D.Door D.L.Meanings K.Clock R.Meanings R.looks S.Shelf ⟦<Y as ToldLog>⟧.told D.L.may_wait)
+    ensures { LeavesClient (part_tells D.Door D.L.Meanings D.L.heard K.Clock R.Meanings R.heard R.looks S.Shelf ⟦<Y as ToldLog>⟧.told D.L.may_wait)
         post.entry part.old part.new link peer.now result }
 {
     let before = forget_last(&mut part.desk);
     part.log.greet(peer);
-    let visit = Visit {
+    let of = Reception {
         alloc,
         site: SessionSite {
             cfg: post.cfg,
@@ -280,14 +283,13 @@ pub(crate) fn serve_client<
         inbox,
     };
     let mut link = link;
-    let end = serve_seated(
-        visit,
-        &mut part.desk,
-        &mut part.clock,
-        &mut part.reach,
-        &mut link,
-        &mut part.log,
-    );
+    let mut means = LentMeans {
+        clock: &mut part.clock,
+        reach: &mut part.reach,
+        client: &mut link,
+        rows: &mut part.log,
+    };
+    let end = serve_seated(of, &mut part.desk, &mut means);
     close_client(part, link, before, end.stop)
 }
 
@@ -298,7 +300,7 @@ pub(crate) fn go_on<L: SiteName, D: Door, R: Reach, K: Clock, S: Shelf, W, Y: Wo
 ) -> Option<WorkerEnd<L>>
     requires idle { (R.beside part.old.reach).runs ≡ false }
     requires none_held { part.old.desk.desk.held ≡ [] }
-    ensures { RestsPart (part_tells D.Door D.L.Meanings K.Clock R.Meanings R.looks S.Shelf ⟦<Y as ToldLog>⟧.told D.L.may_wait)
+    ensures { RestsPart (part_tells D.Door D.L.Meanings D.L.heard K.Clock R.Meanings R.heard R.looks S.Shelf ⟦<Y as ToldLog>⟧.told D.L.may_wait)
         part.old part.new result }
 {
     let now = part.clock.now();

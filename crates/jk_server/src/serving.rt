@@ -1,6 +1,7 @@
 //! The whole work of one worker.
 ghost use Rattle.std.specs.Prelude.{◌≡◌};
 ghost use Rattle.client_session.specs.Requests.{visit};
+ghost use Rattle.exchange.specs.Awaits.{AwaitsDials};
 ghost use Rattle.jk_server.specs.Served.{ServesPart};
 ghost use Rattle.jk_server.specs.PartTells.{part_tells};
 ghost use Rattle.jk_server.specs.Turns.{TurnsPart};
@@ -19,7 +20,8 @@ use std::alloc::Global;
 use std::sync::Wait;
 
 /// Serves the clients that the part's door gives, one after the other, until the worker ends. No talk of the reach runs,
-/// and the desk holds no ticket, before the call and after it. The log isn't broken before it.
+/// and the desk holds no ticket, before the call and after it. The log isn't broken before it. Before each talk the reach is told
+/// how long its dial may take.
 pub fn serve_part<L: SiteName, D: Door, R: Reach, K: Clock, S: Shelf, W: Wait, Y: WorkerLog>(
     rt: &W,
     alloc: Global,
@@ -29,8 +31,9 @@ pub fn serve_part<L: SiteName, D: Door, R: Reach, K: Clock, S: Shelf, W: Wait, Y
     part: &mut Part<'_, '_, L, D, R, K, S, W, Y>,
 ) -> WorkerEnd<L>
     requires ready { MayBegin cfg.now map.now part.old.desk.desk (R.beside part.old.reach) (Y.broken_by part.old.log) }
-    ensures served { ServesPart (part_tells D.Door D.L.Meanings K.Clock R.Meanings R.looks S.Shelf ⟦<Y as ToldLog>⟧.told D.L.may_wait)
+    ensures served { ServesPart (part_tells D.Door D.L.Meanings D.L.heard K.Clock R.Meanings R.heard R.looks S.Shelf ⟦<Y as ToldLog>⟧.told D.L.may_wait)
         (visit cfg.now map.now number) part.old part.new result }
+    ensures dials { AwaitsDials R.Meanings R.heard cfg.now.lbs part.old.reach part.new.reach }
     ensures fit { IsFit cfg.now map.now part.new.desk.desk (R.beside part.new.reach) }
     ensures parts { part.new.desk.desk.parts ≡ part.old.desk.desk.parts }
 {
@@ -56,7 +59,7 @@ fn serve_turn<L: SiteName, D: Door, R: Reach, K: Clock, S: Shelf, W: Wait, Y: Wo
     inbox: &mut Option<Inbox>,
 ) -> Option<WorkerEnd<L>>
     requires ready { MayBegin post.cfg.now post.map.now part.old.desk.desk (R.beside part.old.reach) (Y.broken_by part.old.log) }
-    ensures { TurnsPart (part_tells D.Door D.L.Meanings K.Clock R.Meanings R.looks S.Shelf ⟦<Y as ToldLog>⟧.told D.L.may_wait)
+    ensures { TurnsPart (part_tells D.Door D.L.Meanings D.L.heard K.Clock R.Meanings R.heard R.looks S.Shelf ⟦<Y as ToldLog>⟧.told D.L.may_wait)
         post.entry part.old part.new sessions result }
 {
     let (link, peer) = match next_client(alloc, &mut part.door) {

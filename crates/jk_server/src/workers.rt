@@ -137,7 +137,7 @@ where
     requires few { vec_len slots.old ≤ MAX_WORKERS }
     requires ready { All (λ s. MayBegin cfg.now map.now s.part.desk.desk (R.beside s.part.reach) (Y.broken_by s.part.log)) slots.old.items }
     ensures served { AreDone
-        (WorksSlot (part_tells D.Door D.L.Meanings K.Clock R.Meanings R.looks S.Shelf ⟦<Y as ToldLog>⟧.told D.L.may_wait) cfg.now map.now)
+        (WorksSlot (part_tells D.Door D.L.Meanings D.L.heard K.Clock R.Meanings R.heard R.looks S.Shelf ⟦<Y as ToldLog>⟧.told D.L.may_wait) cfg.now map.now)
         0 slots.old.items slots.new.items }
 {
     let crew = Crew {
@@ -205,7 +205,7 @@ impl<'a, 's, 'r, L: SiteName, D: Door, R: Reach, K: Clock, S: Shelf, W: Wait, Y:
     ghost may = { λ crew number slot. (number < MAX_WORKERS)
         × MayBegin crew.cfg.now crew.map.now slot.part.desk.desk (R.beside slot.part.reach) (Y.broken_by slot.part.log) };
 
-    ghost did = { λ crew number a b. let told = part_tells D.Door D.L.Meanings K.Clock R.Meanings R.looks S.Shelf ⟦<Y as ToldLog>⟧.told D.L.may_wait in
+    ghost did = { λ crew number a b. let told = part_tells D.Door D.L.Meanings D.L.heard K.Clock R.Meanings R.heard R.looks S.Shelf ⟦<Y as ToldLog>⟧.told D.L.may_wait in
         WorksSlot told crew.cfg.now crew.map.now number a b };
 
     fn work(&self, number: usize, slot: &mut Slot<Part<'s, 'r, L, D, R, K, S, W, Y>, L>) {

@@ -1,5 +1,6 @@
 -- The session, what the worker makes of its end, and its link at the door.
-use Rattle.std.proofs.Common.{◌∙◌, List, Option, ap, refl}
+use Rattle.std.proofs.Common.{◌∙◌, ap, refl, subst, sym}
+use Rattle.exchange.specs.Awaits.{AwaitsDials}
 use Rattle.gear_parts.specs.Logs.{log_tells}
 use Rattle.jk_server.specs.Worker.{keeps, worker_side}
 use Rattle.jk_server.proofs.RunLaws.{begins_so, fit_after, fit_forgot, parts_after, rose_loud, ready_for, same_but_desk, settled, settles_so, stray_met}
@@ -20,7 +21,8 @@ returns g c =
     let s = c.serve_seated-end in
     let e = s.ensures.session in
     let from = worker_side g.K.Clock.answers g.R.Meanings g.R.Reach.looks c.forget_last-before.new.desk c.args.part.now.clock c.args.part.now.reach c.greet.new.self in
-    let to = worker_side g.K.Clock.answers g.R.Meanings g.R.Reach.looks s.new.desk s.new.clock s.new.reach s.new.rows in
+    let to = worker_side g.K.Clock.answers g.R.Meanings g.R.Reach.looks s.new.desk s.new.means.clock.now s.new.means.reach.now s.new.means.rows.now in
+    let client = c.link-2-1.given.1 (sym s.ensures.still.2) in
     let forgets = ap (λ d. d.desk) c.forget_last-before.ensures.desk in
     let loud = rose_loud _ _ _ _ _ c.requires.ready.logged c.greet.ensures.calm
     (g.met.Y.WorkerLog.breaks_loudly _ _ e.ran.gained e.ran.added) in
@@ -30,7 +32,7 @@ returns g c =
     s.ensures.shelf.no_fewer s.ensures.shelf.no_less) in
     record {
       served = record {
-        back = s.new.client;
+        back = s.new.means.client.now;
         from = from;
         to = to;
         session_end = s.result;
@@ -43,15 +45,18 @@ returns g c =
           met = e.met;
           kept = e.kept;
           idle_only = e.idle_only;
+          awaits = e.awaits;
           gone = s.ensures.gone;
           shelf = s.ensures.shelf;
         };
         settles = settles;
         same = same_but_desk g.K.Clock.answers g.R.Meanings g.R.Reach.looks s.new.desk _ _ _ _ _ _ _ c.close_client.ensures.same;
         coming = c.close_client.ensures.same_door.0;
-        left = c.close_client.ensures.left;
+        left = rw client at c.close_client.ensures.left;
         door_faults = c.close_client.ensures.same_door.1;
       };
+      dials =
+          subst (λ r. AwaitsDials g.R.Meanings g.R.Link.heard c.args.post.cfg.now.lbs c.args.part.now.reach r) (sym c.close_client.ensures.same.0) e.dials;
       fit =
           fit_after _ _ _ _ _ _ _ _ _ c.requires.ready.fit forgets e.kept (settled of from to _ _ _ settles)
           (ap (λ r. (g.R.Meanings.beside r).sizes) c.close_client.ensures.same.0 ∙ e.ready.reach_sizes)

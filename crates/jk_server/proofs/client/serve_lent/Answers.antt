@@ -23,4 +23,7 @@ returns-clause-session g c = record {
   kept = search rules;
   ready = search rules;
   idle_only = search rules;
+  awaits = let is : c.args.loan.now.desk ≡ Some c.unwrap-desk.result = sym c.take.ensures.value ∙ c.unwrap-desk.ensures in
+      rw is c.serve_visit-end.ensures.session.awaits;
+  dials = search rules;
 }

@@ -1,11 +1,12 @@
 -- The session over what was lent, or none where memory was wanted for its inbox.
-use Rattle.std.proofs.Common.{refl, rules, sym}
+use Rattle.std.proofs.Common.{inl, inr, refl, rules, sym}
+use Rattle.exchange.proofs.AwaitLaws.{awaits_none}
 use Rattle.client_session.proofs.WayLaws.{holds_of_each, never_began, no_parts}
 use Rattle.status_worker.proofs.DeskLaws.{none_met, untouched}
 use Rattle.jk_server.proofs.client.serve_visit.Goals as goal
 
-pub returns-in_default : goal.returns-in_default
-returns-in_default g c = record {
+pub returns-in_default-clause-session : goal.returns-in_default-clause-session
+returns-in_default-clause-session g c = record {
   ran = never_began _ _ _ (g.met.Y.RowSink.gains_nothing _);
   parts = no_parts _ _ refl;
   each = holds_of_each _ _;
@@ -14,23 +15,23 @@ returns-in_default g c = record {
   kept = untouched _ _;
   ready = c.requires.ready;
   idle_only = search rules;
+  awaits = record { requests = inl (refl, refl) };
+  dials = awaits_none _ _ _ _ _ refl;
 }
 
-pub returns : goal.returns
-returns g c =
+pub returns-clause-session : goal.returns-clause-session
+returns-clause-session g c =
     let e = c.serve_session-end.ensures in
-    let same = e.session.kept.same in
-    let desk = c.desk-1.given.1 (sym same.0) in
-    let clock = c.clock-1.given.1 (sym same.1) in
-    let reach = c.reach-1.given.1 (sym same.2) in
-    let client = c.client-1.given.1 (sym same.3) in
+    let desk = c.desk-1.given.1 (sym e.session.kept.same.0) in
     record {
-      ran = rw (desk, clock, reach, client) e.session.session;
-      parts = rw (desk, clock, reach, client) e.session.parts;
+      ran = rw desk e.session.session;
+      parts = rw desk e.session.parts;
       each = e.each;
-      fault = rw client e.session.fault;
+      fault = e.session.fault;
       met = rw desk e.session.met;
       kept = rw desk e.session.kept.kept;
-      ready = rw (desk, reach) e.session.kept.ready;
+      ready = rw desk e.session.kept.ready;
       idle_only = e.idle_only;
+      awaits = record { requests = inr (rw desk e.awaits) };
+      dials = e.dials;
     }

@@ -1,4 +1,5 @@
 use Rattle.std.proofs.Common.{◌∙◌}
+use Rattle.exchange.proofs.AwaitLaws.{awaits_twice}
 use Rattle.jk_server.proofs.RunLaws.{turns_again, turns_first}
 use Rattle.jk_server.proofs.serving.serve_part.Goals as goal
 
@@ -14,6 +15,7 @@ serve_turn-requires g c = record { ready = record { fit = c.clients.invariant.fi
 pub returns-in-Some-serve_turn : goal.returns-in-Some-serve_turn
 returns-in-Some-serve_turn g c = record {
   served = c.in-Some-serve_turn.ensures.turned _ _ c.clients.invariant.way;
+  dials = awaits_twice _ _ _ _ _ _ c.clients.invariant.dials c.in-Some-serve_turn.ensures.dials;
   fit = c.in-Some-serve_turn.ensures.fit;
   parts = c.in-Some-serve_turn.ensures.parts ∙ c.clients.invariant.parts;
 }

@@ -1,4 +1,4 @@
-use Rattle.std.proofs.Common.{sym, ◌∙◌}
+use Rattle.std.proofs.Common.{sym}
 use Rattle.gear_parts.specs.Logs.{log_tells}
 use Rattle.gear_parts.specs.declared.part.Part.{Part}
 use Rattle.jk_server.specs.Parts.{WorksSlot}
@@ -17,7 +17,7 @@ work_in_all-requires-clause-may g c = λ κs within.
 
 pub returns : goal.returns
 returns g c =
-    let told = part_tells g.D.Door g.D.L.Meanings g.K.Clock g.R.Meanings g.R.Reach.looks g.S.Shelf (log_tells g.Y.RowSink.gained g.Y.WorkerLog.greets g.Y.WorkerLog.broken_by g.Y.WorkerLog.log_faults) g.D.L.Link.may_wait in
+    let told = part_tells g.D.Door g.D.L.Meanings g.D.L.Link.heard g.K.Clock g.R.Meanings g.R.Link.heard g.R.Reach.looks g.S.Shelf (log_tells g.Y.RowSink.gained g.Y.WorkerLog.greets g.Y.WorkerLog.broken_by g.Y.WorkerLog.log_faults) g.D.L.Link.may_wait in
     record {
       served =
           done_back {Q = Slot (Part g.row.L.Denot g.row.D.Denot g.row.R.Denot g.row.K.Denot g.row.S.Denot g.row.W.Denot g.row.Y.Denot) g.row.L.Denot}

@@ -118,7 +118,7 @@ returns-clause-ran g c =
           0 slots gears leaving ends fresh each
           (λ k s o v e new is.
           served_same _ _ _ _ _ (gear_side at g.T.Tape.talks g.K.Clock.answers) _ o _ v.seat _ e is.leaves.gear_left is.leaves.desk.seat_left is.leaves.ended
-          (served_gear _ _ _ _ _ _ _ _ _ _ is.did.served (record { shelf = refl; clock = refl; talks = refl }) new.0.0
+          (served_gear _ _ _ _ _ _ _ _ _ _ _ is.did.served (record { shelf = refl; clock = refl; talks = refl }) new.0.0
           (record { shelf = refl; clock = refl; talks = refl }) new.1 refl
           (told_left _ _ _ _ (told_served _ _ _ _ _ _ _ _ is.did.served) new.0.0.none_seen refl)
           (cut_left _ _ _ _ (cut_served _ _ _ _ _ _ _ _ is.did.served) new.0.0.no_step refl))));
