@@ -1,1 +1,3 @@
 pub mod Demo
+pub mod Process
+pub mod Words

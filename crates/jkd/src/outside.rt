@@ -1,18 +1,14 @@
-//! The order that was read, done over the system's files and streams and a world.
-ghost use Rattle.std.specs.Prelude.{◌≡◌, ◌↔◌};
-ghost use Rattle.plain_commands.specs.Endings.{plain_side};
-ghost use Rattle.jk_server.specs.Commands.{telling};
-ghost use Rattle.jk_commands.specs.Commands.{DoesAsked, HandsOnOrder};
-ghost use Rattle.jk_commands.specs.Ends.{status_of};
+//! What was read of the words, done over the system's files and streams and a world.
+ghost use Rattle.std.specs.Prelude.{◌≡◌, ◌↔◌, Err};
 ghost use Rattle.jk_commands.specs.Orders.{IfPlain, IfServed, IsNoCommand};
-ghost use Rattle.jk_commands.specs.Plain.{EndsPlain};
+ghost use Rattle.jkd.specs.Process.{EndsProcess, ServesProcess};
 
 use crate::telling::{asks_stop, reason, tell};
 use gear_parts::ToldWorld;
 use gear_worlds::{Trouble, World};
 use jk_cli::{CommandName, Order, WordsError};
 use jk_commands::{EndOf, JkdEnd, SiteTeller, TellingWorld, let_go, run_jkd};
-use jk_io::{Bytes, Door, Files, Sink, Source};
+use jk_io::{Bytes, Door};
 use real_io::{RealFiles, StdIn, StdOut};
 use remarks::{CountedInput, Ended, InputSeen, KeptFiles, ReadFile, command_asked};
 use site_reports::SiteFound;
@@ -32,37 +28,26 @@ pub(crate) fn threads_of(asked: &Result<Order, WordsError>) -> u32 {
     }
 }
 
-/// How what was read of the words ended, what it found of the files of a site, and the status that says so.
+/// How what was read of the words ended in a world, and what it found of the files of a site.
 #[derive(Drop)]
-struct OrderEnd {
-    end: JkdEnd,
-    site: Option<SiteFound>,
-    status: u8,
+pub(crate) struct OrderEnd<W> {
+    pub end: JkdEnd,
+    pub site: Option<SiteFound>,
+    pub world: W,
 }
 
-/// Does what was read of the words, over any files, streams and world.
-fn do_in<F: Files, S: Source, O: Sink, W: World, R: AllocGlobal + Threads + Wait + Sync>(
-    rt: &R,
+/// The files that what was read of the words is about: a stop goes to a socket alone.
+fn files_of<'r, R: SystemFiles + Net>(
+    rt: &'r R,
     asked: &Result<Order, WordsError>,
-    files: &mut F,
-    input: &mut S,
-    out: &mut O,
-    world: &mut W,
-) -> OrderEnd
-where
-    <W::D as Door>::L: Send,
-    ensures status { result.status ≡ status_of result.end }
-    ensures serves { IfServed asked.now (λ o. DoesAsked (telling F.Files O.Meanings ⟦<W as ToldWorld>⟧.told)
-        o (files.old, out.old, world.old) (files.new, out.new, world.new) result.end) }
-    ensures refused { IfServed asked.now (λ o. HandsOnOrder (telling F.Files O.Meanings ⟦<W as ToldWorld>⟧.told)
-        o (files.old, out.old, world.old) (files.new, out.new, world.new) result.status result.site) }
-    ensures plain { IfPlain asked.now (λ o. let s = plain_side F.Files S.Meanings O.Meanings in
-        EndsPlain o (s files.old input.old out.old) (s files.new input.new out.new) result.end result.site) }
-    ensures no_command { (result.end ≡ EndOf.Status 2) ↔ IsNoCommand asked.now }
+) -> RealFiles<'r, R>
+    ensures { result.failed ≡ 0 }
 {
-    let (end, site) = run_jkd(rt, rt.alloc(), asked, files, input, out, world);
-    let status = end.status();
-    OrderEnd { end, site, status }
+    if asks_stop(asked) {
+        RealFiles::sockets(rt)
+    } else {
+        RealFiles::new(rt)
+    }
 }
 
 /// How a command ended: the word that names it, its status, what it read of the input, and the site that it judged.
@@ -96,60 +81,71 @@ fn tell_ended<'x, E: Write + Drop>(
     tell(alloc, err, &ended);
 }
 
-/// Does the command in this world, over the system's files and streams. Tells a person of it, and answers its status.
-fn do_told<
-    W: World,
-    E: Write + Drop,
-    R: Print + Input + SystemFiles + Net + AllocGlobal + Threads + Wait + Sync,
->(rt: &R, words: &[Bytes], asked: &Result<Order, WordsError>, world: &mut W, err: E) -> u8
-where
-    <W::D as Door>::L: Send,
-{
-    let files = if asks_stop(asked) {
-        RealFiles::sockets(rt)
-    } else {
-        RealFiles::new(rt)
-    };
-    let mut files = KeptFiles::new(rt.alloc(), files);
-    let mut input = CountedInput::new(StdIn::new(rt.reader()));
-    let mut out = StdOut::new(rt);
-    let OrderEnd { end, site, status } = do_in(rt, asked, &mut files, &mut input, &mut out, world);
-    let_go(end);
-    let how = CommandEnded {
-        command: command_asked(asked),
-        status,
-        input: input.seen(),
-        site,
-    };
-    if let Ok(reason) = reason(rt, asked, files.reads()) {
-        tell_ended(
-            rt.alloc(),
-            err,
-            words,
-            files.reads(),
-            reason.as_bytes(),
-            &how,
-        );
+/// Tells a person how what was read of the words ended.
+fn tell_of<E: Write + Drop, R: SystemFiles + Net + AllocGlobal>(
+    rt: &R,
+    words: &[Bytes],
+    asked: &Result<Order, WordsError>,
+    reads: &[ReadFile],
+    err: E,
+    how: &CommandEnded,
+) {
+    if let Ok(reason) = reason(rt, asked, reads) {
+        tell_ended(rt.alloc(), err, words, reads, reason.as_bytes(), how);
     }
-    let_go(how);
-    let_go(files);
-    status
 }
 
-/// As `do_told`, in a world that tells first what has no effect in the files of a site that is served. The world comes back.
-/// `errs`: what is told of such files goes to the first, and what is told of the command to the second.
+/// Does what was read of the words in this world, over the system's files and streams, and answers how it ended. A person is told
+/// before a site is served which lines of its files have no effect, and afterwards how the command ended, by the first and the
+/// second of `errs`; neither changes anything.
 pub(crate) fn do_outside<
     W: World + Drop,
     E: Write + Drop,
     R: Print + Input + SystemFiles + Net + AllocGlobal + Threads + Wait + Sync,
->(rt: &R, words: &[Bytes], asked: &Result<Order, WordsError>, world: W, errs: (E, E)) -> (u8, W)
+>(rt: &R, words: &[Bytes], asked: &Result<Order, WordsError>, world: W, errs: (E, E)) -> OrderEnd<W>
 where
     <W::D as Door>::L: Send,
+    // An order that asks for workers or threads, with what it hands on of a site.
+    ensures serves { IfServed asked.now (λ o. ServesProcess ⟦<W as ToldWorld>⟧.told o world result.world result.end result.site) }
+
+    // Any other order. The world isn't asked.
+    ensures plain { IfPlain asked.now (λ o. EndsProcess o result.end result.site) }
+    ensures world { IfPlain asked.now (λ _. result.world ≡ world) }
+
+    // No command, exactly by what was read of the words; and no memory for the order. Nothing is done.
+    ensures no_command { (result.end ≡ EndOf.Status 2) ↔ IsNoCommand asked.now }
+    ensures nothing { result.end ≡ EndOf.Status 2 → result.world ≡ world }
+    ensures no_memory { asked.now ≡ Err WordsError.NoMemory → (result.end ≡ EndOf.Status 6) × (result.world ≡ world) }
 {
     let (of_site, err) = errs;
     let mut world = TellingWorld::new(world, SiteTeller::of(asked, of_site));
-    let status = do_told(rt, words, asked, &mut world, err);
-    (status, world.into_world())
+    let mut files = KeptFiles::new(rt.alloc(), files_of(rt, asked));
+    let mut input = CountedInput::new(StdIn::new(rt.reader()));
+    let mut out = StdOut::new(rt);
+    let run = run_jkd(
+        rt,
+        rt.alloc(),
+        asked,
+        &mut files,
+        &mut input,
+        &mut out,
+        &mut world,
+    );
+    let (end, site) = run;
+    let how = CommandEnded {
+        command: command_asked(asked),
+        status: end.status(),
+        input: input.seen(),
+        site,
+    };
+    tell_of(rt, words, asked, files.reads(), err, &how);
+    let_go(files);
+    let CommandEnded { site, .. } = how;
+    OrderEnd {
+        end,
+        site,
+        world: world.into_world(),
+    }
 }
 
 /// Tells what failed first in the real world.

@@ -1,0 +1,3 @@
+mod ProcessLaws
+mod WithinLaws
+mod WordLaws
